@@ -1,0 +1,92 @@
+-- The laws of tests over an index and of the least number that passes.
+use Prim.Native.Nat.{ℕ, zero, suc, _≤_, _<_}
+use mathlib.Core.Bool.{Bool, true, false, cond, _&&_, false≢true, true≢false}
+use mathlib.Core.List.{List, [], _∷_, _++_}
+use mathlib.Core.Logic.{⊎-elim}
+use mathlib.Core.Path.{_≡_, refl, sym, ap, _∙_, subst}
+use native.Mathlib.Nat.{not-suc-le-zero, le-of-suc-le-suc, eq-or-lt-of-le, le-refl, le-step, le-suc, lt-of-lt-of-le, not-le-of-lt}
+use native.Mathlib.Omega.{arith}
+use lib.Dec.{ltb}
+use borrow.Author.Tests.{lt-ltb, le-ltb, ltb-true, ltb-false}
+use Rattle.octets.specs.Search.{all, least, allOf}
+
+pub and-left : (a b : Bool) → a && b ≡ true → a ≡ true
+and-left true b e = refl
+and-left false b e = e
+
+pub and-right : (a b : Bool) → a && b ≡ true → b ≡ true
+and-right true b e = e
+and-right false b e = absurd (false≢true e)
+
+pub and-true : (a b : Bool) → a ≡ true → b ≡ true → a && b ≡ true
+and-true a b p q = ap (λ (t : Bool). t && b) p ∙ q
+
+pub and-false : (a b : Bool) → b ≡ false → a && b ≡ false
+and-false true b e = e
+and-false false b e = refl
+
+pub all-each : (n : ℕ) (p : ℕ → Bool) → all n p ≡ true → (k : ℕ) → k < n → p k ≡ true
+unfolding all
+all-each zero p e k h = absurd (not-suc-le-zero h)
+all-each (suc n) p e k h =
+    ⊎-elim (λ q. ap p q ∙ and-right (all n p) (p n) e) (λ l. all-each n p (and-left (all n p) (p n) e) k l)
+    (eq-or-lt-of-le (le-of-suc-le-suc h))
+
+pub each-all : (n : ℕ) (p : ℕ → Bool) → ((k : ℕ) → k < n → p k ≡ true) → all n p ≡ true
+unfolding all
+each-all zero p h = refl
+each-all (suc n) p h = and-true (all n p) (p n) (each-all n p (λ k l. h k (le-step l))) (h n (le-refl (suc n)))
+
+-- nothing so far and the next number fails: nothing so far
+pub least-more : (n : ℕ) (p : ℕ → Bool) → least n p ≡ n → p n ≡ false → least (suc n) p ≡ suc n
+unfolding least
+least-more n p e f = simp (e, le-ltb n n (le-refl n), f)
+
+-- nothing so far and the next number passes: it is the least
+pub least-here : (n : ℕ) (p : ℕ → Bool) → least n p ≡ n → p n ≡ true → least (suc n) p ≡ n
+unfolding least
+least-here n p e t = simp (e, le-ltb n n (le-refl n), t)
+
+-- what is found stays found
+pub least-stays : (n : ℕ) (p : ℕ → Bool) (k : ℕ) → least n p ≡ k → k < n → least (suc n) p ≡ k
+unfolding least
+least-stays n p k e h = simp (e, lt-ltb k n h)
+
+-- what is found below a bound is found below every larger one
+pub least-found : (n : ℕ) (p : ℕ → Bool) (k : ℕ) → least k p ≡ k → p k ≡ true → k < n → least n p ≡ k
+least-found zero p k e t h = absurd (not-suc-le-zero h)
+least-found (suc n) p k e t h =
+    ⊎-elim (λ q. subst (λ (m : ℕ). least (suc m) p ≡ k) q (least-here k p e t)) (λ l. least-stays n p k (least-found n p k e t l) l)
+    (eq-or-lt-of-le (le-of-suc-le-suc h))
+
+-- the three cases of one number more
+module _ (n : ℕ) (p : ℕ → Bool) (P : ℕ → Type 0) (stays : least n p < n → P (least n p)) (here : n ≤ least n p → p n ≡ true → P n) (more : n ≤ least n p → p n ≡ false → P (suc n)) where
+  least-cases : P (least (suc n) p)
+  unfolding least
+  least-cases = found (ltb (least n p) n) refl
+    where
+      next : (t : Bool) → p n ≡ t → n ≤ least n p → P (cond t n (suc n))
+      next true e h = here h e
+      next false e h = more h e
+
+      found : (t : Bool) → ltb (least n p) n ≡ t → P (cond t (least n p) (cond (p n) n (suc n)))
+      found true e = stays (ltb-true (least n p) n e)
+      found false e = next (p n) refl (ltb-false (least n p) n e)
+
+pub least-bound : (n : ℕ) (p : ℕ → Bool) → least n p ≤ n
+unfolding least
+least-bound zero p = le-refl 0
+least-bound (suc n) p = least-cases n p (λ k. k ≤ suc n) (λ h. omega arith) (λ h e. le-suc n) (λ h e. le-refl (suc n))
+
+pub least-passes : (n : ℕ) (p : ℕ → Bool) → least n p < n → p (least n p) ≡ true
+unfolding least
+least-passes zero p h = absurd (not-suc-le-zero h)
+least-passes (suc n) p h =
+    least-cases n p (λ k. k < suc n → p k ≡ true) (λ l _. least-passes n p l) (λ l e _. e) (λ l e q. absurd (not-le-of-lt q (le-refl (suc n)))) h
+
+pub least-first : (n : ℕ) (p : ℕ → Bool) (k : ℕ) → k < least n p → p k ≡ false
+unfolding least
+least-first zero p k h = absurd (not-suc-le-zero h)
+least-first (suc n) p k h =
+    least-cases n p (λ m. k < m → p k ≡ false) (λ l q. least-first n p k q) (λ l e q. least-first n p k (lt-of-lt-of-le q l))
+    (λ l e q. ⊎-elim (λ i. ap p i ∙ e) (λ i. least-first n p k (lt-of-lt-of-le i l)) (eq-or-lt-of-le (le-of-suc-le-suc q))) h
