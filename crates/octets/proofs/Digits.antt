@@ -1,9 +1,9 @@
 -- The laws of numbers in a base, over the base and the count of digits.
 use Prim.Native.Nat.{ℕ, zero, suc, _+_, _-_, _*_, _/_, _%_, _^_, _≤_, _<_, zero-le}
-use mathlib.Core.Bool.{Bool, true, _&&_}
+use mathlib.Core.Bool.{true}
 use mathlib.Core.List.{List, [], _∷_, _++_, append-assoc, append-nil}
 use mathlib.Core.Path.{_≡_, refl, sym, ap, ap₂, _∙_, subst}
-use native.Mathlib.Nat.{add-zero, add-suc, zero-mul, zero-add, mul-one, mul-assoc, add-mul, add-assoc, pow-zero, pow-suc, pow-succ', div-add-mod', div-lt-iff-lt-mul, mod-lt, mod-eq-of-lt, div-eq-of-lt, not-suc-le-zero, zero-lt-suc, lt-of-le-of-lt, lt-of-lt-of-le, pow-le-pow-right, mul-zero}
+use native.Mathlib.Nat.{add-zero, add-suc, zero-mul, zero-add, mul-one, pow-zero, pow-suc, pow-succ', div-add-mod', div-lt-iff-lt-mul, mod-lt, mod-eq-of-lt, not-suc-le-zero, zero-lt-suc, lt-of-le-of-lt, lt-of-lt-of-le, pow-le-pow-right, mul-zero}
 use native.Mathlib.Numerals.{add-one, one-add}
 use native.Mathlib.Omega.{arith}
 use lib.Arith.{digits-div, digits-mod, digits-lt, lt-one}

@@ -1,10 +1,10 @@
 -- The number that a rising list of refusals gives is the lowest whose condition holds.
-use Prim.Native.Nat.{ℕ, zero, _≤_, _<_}
-use mathlib.Core.Bool.{Bool, true, false, cond, false≢true}
+use Prim.Native.Nat.{ℕ, _≤_, _<_}
+use mathlib.Core.Bool.{true, false, false≢true}
 use mathlib.Core.List.{List, [], _∷_}
-use mathlib.Core.Logic.{_⊎_, inl, inr, ⊎-elim}
-use mathlib.Core.Path.{_≡_, refl, sym, ap, _∙_, subst}
-use native.Mathlib.Nat.{le-of-eq, le-of-lt, lt-trans, le-trans, lt-of-lt-of-le}
+use mathlib.Core.Logic.{inl, inr, ⊎-elim}
+use mathlib.Core.Path.{_≡_, refl, subst}
+use native.Mathlib.Nat.{le-of-eq, le-of-lt, lt-trans}
 use Rattle.octets.specs.Refusal.{Refusal, _when_, refusal, Rising, Applies}
 
 -- whatever applies in a rising list is above its lower bound

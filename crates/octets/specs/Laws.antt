@@ -6,8 +6,8 @@ use mathlib.Core.Option.{some}
 use mathlib.Core.Path.{_≡_}
 use lib.Dec.{ltb}
 use lib.ListN.{length}
-use Rattle.octets.specs.Digits.{digits, number, be, field}
-use Rattle.octets.specs.Text.{digitText, readDigits, decimalWidth}
+use Rattle.octets.specs.Digits.{digits, number}
+use Rattle.octets.specs.Text.{digitText, readDigits}
 use Rattle.octets.specs.Part.{same}
 use Rattle.octets.specs.Search.{all, least, allOf}
 use Rattle.octets.specs.Refusal.{Refusal, refusal, Rising, Applies}

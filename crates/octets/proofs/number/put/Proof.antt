@@ -1,14 +1,13 @@
 -- `octets::number::put` meets its contract. The loop goes from the last octet to the first; its invariant: the octets that are left, stored
 -- before what is stored already, make the whole.
-use Prim.Native.Nat.{ℕ, zero, suc, _+_, _*_, _-_, _/_, _%_, _^_, _≤_, _<_}
-use mathlib.Core.List.{List, [], _∷_, _++_}
-use mathlib.Core.Path.{_≡_, refl, sym, ap, _∙_, subst}
+use Prim.Native.Nat.{ℕ, _+_, _-_, _/_, _%_, _≤_, _<_}
+use mathlib.Core.List.{List}
+use mathlib.Core.Path.{_≡_, refl, sym, ap, _∙_}
 use native.Mathlib.Omega.{arith}
 use lib.ListN.{length, set, length-set}
 use lib.Seq.{sets}
 use borrow.Author.Needs.{needs}
 use Rattle.octets.specs.Digits.{be, digits}
-use Rattle.octets.specs.Part.{Wrote}
 use Rattle.octets.proofs.Digits.{digits-last, length-digits}
 use Rattle.octets.proofs.Parts.{sets-last}
 use Rattle.octets.proofs.number.put.Statement.{statement}

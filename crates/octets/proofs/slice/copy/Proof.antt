@@ -1,7 +1,7 @@
 -- `octets::slice::copy` meets its contract. The loop's invariant: the octets passed are stored one after another.
-use Prim.Native.Nat.{ℕ, zero, suc, _+_, _*_, _-_, _/_, _%_, _^_, _≤_, _<_}
-use mathlib.Core.List.{List, [], _∷_, _++_}
-use mathlib.Core.Path.{_≡_, refl, sym, ap, _∙_, subst}
+use Prim.Native.Nat.{ℕ, _+_, _-_, _≤_, _<_}
+use mathlib.Core.List.{List, [], _∷_}
+use mathlib.Core.Path.{_≡_, refl, sym, ap, _∙_}
 use native.Mathlib.Nat.{le-of-lt}
 use native.Mathlib.Numerals.{add-one}
 use native.Mathlib.Omega.{arith}
@@ -9,7 +9,6 @@ use lib.ListN.{length, getD, set, take, length-set}
 use lib.Seq.{sets, take-suc, take-all, length-take-le}
 use denote.Ref.{now}
 use borrow.Author.Needs.{needs}
-use Rattle.octets.specs.Part.{Wrote}
 use Rattle.octets.proofs.Parts.{sets-append}
 use Rattle.octets.proofs.slice.copy.Statement.{statement}
 use Rattle.octets.proofs.slice.copy.Tie as tie

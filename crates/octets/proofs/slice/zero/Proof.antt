@@ -1,12 +1,12 @@
 -- `octets::slice::zero` meets its contract. The loop's invariant: the octets passed are zero, and the others are as they were.
-use Prim.Native.Nat.{ℕ, zero, suc, _+_, _*_, _-_, _/_, _%_, _^_, _≤_, _<_}
+use Prim.Native.Nat.{ℕ, zero, _-_, _≤_}
 use mathlib.Core.List.{List, _++_, append-nil}
-use mathlib.Core.Path.{_≡_, refl, sym, ap, _∙_, subst}
+use mathlib.Core.Path.{_≡_, refl, ap, _∙_}
 use native.Mathlib.Omega.{arith}
 use lib.ListN.{length, replicate, set, drop, length-set}
 use lib.Seq.{drop-length}
 use denote.Ref.{now}
-use borrow.Author.Fill.{fill-none, fill-more}
+use borrow.Author.Fill.{fill-more}
 use borrow.Author.Needs.{needs}
 use Rattle.octets.specs.Part.{zeros}
 use Rattle.octets.proofs.slice.zero.Statement.{statement}

@@ -1,7 +1,6 @@
 -- `octets::text::character` meets its contract: the test picks the case.
-use lib.Dec.{leb, ltb}
 use borrow.Author.Needs.{needs}
-use borrow.Author.Tests.{lt-ltb, le-ltb, le-leb, lt-leb}
+use borrow.Author.Tests.{lt-ltb, le-ltb}
 use Rattle.octets.specs.Text.{character}
 use Rattle.octets.proofs.text.character.Statement.{statement}
 use Rattle.octets.proofs.text.character.Tie as tie

@@ -1,6 +1,6 @@
 -- `octets::text::put_decimal` meets its contract: the characters stored are as many as the number has digits.
 use Prim.Native.Nat.{ℕ, _+_}
-use mathlib.Core.Path.{_≡_, ap, subst}
+use mathlib.Core.Path.{ap, subst}
 use denote.Ref.{now}
 use borrow.Author.Needs.{needs}
 use Rattle.octets.specs.Part.{Wrote}

@@ -1,15 +1,14 @@
 -- `octets::text::put_digits` meets its contract. The loop goes from the last character to the first; its invariant: the characters that are
 -- left, stored before what is stored already, make the whole.
-use Prim.Native.Nat.{ℕ, zero, suc, _+_, _*_, _-_, _/_, _%_, _^_, _≤_, _<_}
-use mathlib.Core.List.{List, [], _∷_, _++_, map, map-append}
-use mathlib.Core.Path.{_≡_, refl, sym, ap, _∙_, subst}
+use Prim.Native.Nat.{ℕ, _+_, _-_, _/_, _%_, _≤_, _<_}
+use mathlib.Core.List.{List, [], _∷_, map, map-append}
+use mathlib.Core.Path.{_≡_, refl, sym, ap, _∙_}
 use native.Mathlib.Nat.{mod-lt, lt-of-lt-of-le}
 use native.Mathlib.Omega.{arith}
-use lib.ListN.{length, set, length-set, length-map}
+use lib.ListN.{length, set, length-set}
 use lib.Seq.{sets}
 use borrow.Author.Needs.{needs}
 use Rattle.octets.specs.Digits.{digits}
-use Rattle.octets.specs.Part.{Wrote}
 use Rattle.octets.specs.Text.{character, digitText}
 use Rattle.octets.proofs.Digits.{digits-last}
 use Rattle.octets.proofs.Parts.{sets-last}

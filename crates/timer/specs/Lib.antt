@@ -1,0 +1,2 @@
+-- What the timer octet says.
+pub mod Timer

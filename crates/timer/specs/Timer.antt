@@ -1,0 +1,23 @@
+-- The timer octet: the top three bits give the unit, the low five the count.
+use Prim.Native.Nat.{ℕ, _*_, _/_, _%_}
+use mathlib.Core.Bool.{cond}
+use mathlib.Core.List.{List, [], _∷_}
+use lib.Dec.{eqb}
+use lib.ListN.{getD}
+use Rattle.timer.specs.declared.Timer.{Timer}
+use Rattle.timer.specs.declared.Timer.the-variants.{None, Seconds, Deactivated}
+
+-- units 0 to 6 in seconds: ten minutes, one hour, ten hours, two seconds, thirty seconds, one minute, 320 hours
+unfoldable pub units : List ℕ
+units = 600 ∷ 3600 ∷ 36000 ∷ 2 ∷ 30 ∷ 60 ∷ 1152000 ∷ []
+
+-- the seconds of a unit
+unfoldable pub unitSeconds : ℕ → ℕ
+unitSeconds unit = getD units unit 0
+
+-- unit 7 means deactivated; count 0 with another unit sets no hold; any other octet says its count times its unit
+unfoldable pub timerOf : ℕ → Timer
+timerOf octet =
+    let unit = octet / 32 in
+    let count = octet % 32 in
+    cond (eqb unit 7) Deactivated (cond (eqb count 0) None (Seconds (count * unitSeconds unit)))
