@@ -1,10 +1,10 @@
 -- The number that a rising list of refusals gives is the lowest whose condition holds.
-use Prim.Native.Nat.{ℕ, _≤_, _<_}
-use mathlib.Core.Bool.{true, false, false≢true}
+use Prim.Native.Nat.{ℕ, suc, _≤_, _<_}
+use mathlib.Core.Bool.{Bool, true, false, false≢true}
 use mathlib.Core.List.{List, [], _∷_}
 use mathlib.Core.Logic.{inl, inr, ⊎-elim}
 use mathlib.Core.Path.{_≡_, refl, subst}
-use native.Mathlib.Nat.{le-of-eq, le-of-lt, lt-trans}
+use native.Mathlib.Nat.{le-of-eq, le-of-lt, lt-trans, suc-ne-zero}
 use Rattle.octets.specs.Refusal.{Refusal, _when_, refusal, Rising, Applies}
 
 -- whatever applies in a rising list is above its lower bound
@@ -27,3 +27,9 @@ unfolding refusal
 refusal-none [] h = refl
 refusal-none ((k when true) ∷ rs) h = absurd (h k (inl (refl, refl)))
 refusal-none ((k when false) ∷ rs) h = refusal-none rs (λ n a. h n (inr a))
+
+-- where no number is given, no condition holds
+pub refusal-step : (n : ℕ) (b : Bool) (rs : List Refusal) → refusal ((suc n when b) ∷ rs) ≡ 0 → (b ≡ false) × (refusal rs ≡ 0)
+unfolding refusal
+refusal-step n true rs e = absurd (suc-ne-zero n e)
+refusal-step n false rs e = (refl, e)

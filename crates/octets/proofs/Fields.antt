@@ -1,0 +1,53 @@
+-- Fields of a list of octets: written back as the octets that they were read from, and parts that follow one another.
+use Prim.Native.Nat.{ℕ, zero, suc, _+_, _^_, _≤_, _<_}
+use mathlib.Core.Bool.{Bool, true}
+use mathlib.Core.List.{List, [], _∷_, _++_}
+use mathlib.Core.Path.{_≡_, refl, sym, ap, _∙_, subst}
+use lib.ListN.{length, take, drop}
+use lib.Seq.{take-add, drop-drop, take-length}
+use Rattle.octets.specs.Digits.{be, field}
+use Rattle.octets.specs.Laws.{below}
+use Rattle.octets.specs.Part.{part}
+use Rattle.octets.specs.Search.{allOf}
+use Rattle.octets.proofs.Digits.{digits-number, number-below}
+use Rattle.octets.proofs.Parts.{length-part}
+use Rattle.octets.proofs.Search.{and-left, and-right, and-true}
+
+module _ (p : ℕ → Bool) where
+  allOf-take : (n : ℕ) (l : List ℕ) → allOf p l ≡ true → allOf p (take n l) ≡ true
+  unfolding allOf
+  allOf-take zero l h = refl
+  allOf-take (suc n) [] h = refl
+  allOf-take (suc n) (x ∷ l) h = and-true (p x) (allOf p (take n l)) (and-left (p x) (allOf p l) h) (allOf-take n l (and-right (p x) (allOf p l) h))
+
+  allOf-drop : (n : ℕ) (l : List ℕ) → allOf p l ≡ true → allOf p (drop n l) ≡ true
+  unfolding allOf
+  allOf-drop zero l h = h
+  allOf-drop (suc n) [] h = refl
+  allOf-drop (suc n) (x ∷ l) h = allOf-drop n l (and-right (p x) (allOf p l) h)
+
+  pub allOf-part : (l : List ℕ) (at n : ℕ) → allOf p l ≡ true → allOf p (part l at n) ≡ true
+  unfolding part
+  allOf-part l at n h = allOf-take n (drop at l) (allOf-drop at l h)
+
+module _ (l : List ℕ) (octets : allOf (below 256) l ≡ true) (at n : ℕ) (fits : at + n ≤ length l) where
+  -- n octets say a number of n octets
+  pub field-below : field l at n < 256 ^ n
+  unfolding field
+  field-below =
+      subst (λ (k : ℕ). field l at n < 256 ^ k) (length-part l at n fits) (number-below 256 (part l at n) (allOf-part (below 256) l at n octets))
+
+  -- a field is written as its octets
+  pub be-field : be n (field l at n) ≡ part l at n
+  unfolding be field
+  be-field =
+      ap (λ (k : ℕ). be k (field l at n)) (sym (length-part l at n fits)) ∙ digits-number 256 (part l at n) (allOf-part (below 256) l at n octets)
+
+-- parts that follow one another are one part
+pub part-join : (l : List ℕ) (at m n : ℕ) → part l at m ++ part l (at + m) n ≡ part l at (m + n)
+unfolding part
+part-join l at m n = ap (λ (k : List ℕ). take m (drop at l) ++ take n k) (sym (drop-drop m at l)) ∙ sym (take-add m n (drop at l))
+
+pub part-whole : (l : List ℕ) → part l 0 (length l) ≡ l
+unfolding part
+part-whole l = take-length l
