@@ -1,0 +1,3 @@
+-- The names of a network and of a visited country.
+pub mod Name
+pub mod Laws
