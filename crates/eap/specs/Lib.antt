@@ -4,3 +4,4 @@ pub mod Packet
 pub mod Branch
 pub mod Response
 pub mod Laws
+pub mod Examples

@@ -203,9 +203,9 @@ pub fn nas_of(packet: &[u8]) -> &[u8]
     match read(packet) {
         Packet::NasRequest {
             identifier: _,
-            nas,
-            nas_length,
-        } => part(packet, nas, nas_length),
+            nas: at,
+            nas_length: n,
+        } => part(packet, at, n),
         Packet::NasResponse {
             identifier: _,
             parameters: _,

@@ -13,7 +13,7 @@ use mir.Val.{Fits}
 use borrow.Author.Tests.{eqb-true, leb-true}
 use Rattle.octets.specs.Search.{all}
 use Rattle.octets.proofs.Search.{all-each}
-use Rattle.timer.specs.Timer.{units, unitSeconds}
+use Rattle.timer.specs.Timer.{unitSeconds}
 
 -- a table's entry at a unit is that unit's seconds
 unfoldable pub agrees : List ℕ → ℕ → Bool
@@ -30,7 +30,7 @@ short unit = leb (unitSeconds unit) 1152000
 
 -- the count is below 32 and each of the seven units is at most 320 hours, so their product fits
 pub product : (octet seconds : ℕ) → octet < 256 → (octet / 32 ≡ 7 → ⊥) → seconds ≡ unitSeconds (octet / 32) → Fits w64 (octet % 32 * seconds)
-unfolding all short unitSeconds units
+unfolding all short unitSeconds
 product octet seconds byte on e =
     let count : octet % 32 < 32 = omega arith in
     let unit : octet / 32 < 7 = omega arith in

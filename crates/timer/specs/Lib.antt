@@ -1,2 +1,3 @@
 -- What the timer octet says.
 pub mod Timer
+pub mod Examples

@@ -1,19 +1,20 @@
 -- The timer octet: the top three bits give the unit, the low five the count.
 use Prim.Native.Nat.{ℕ, _*_, _/_, _%_}
 use mathlib.Core.Bool.{cond}
-use mathlib.Core.List.{List, [], _∷_}
 use lib.Dec.{eqb}
-use lib.ListN.{getD}
 use Rattle.timer.specs.declared.Timer.{Timer}
 use Rattle.timer.specs.declared.Timer.the-variants.{None, Seconds, Deactivated}
 
 -- units 0 to 6 in seconds: ten minutes, one hour, ten hours, two seconds, thirty seconds, one minute, 320 hours
-unfoldable pub units : List ℕ
-units = 600 ∷ 3600 ∷ 36000 ∷ 2 ∷ 30 ∷ 60 ∷ 1152000 ∷ []
-
--- the seconds of a unit
 unfoldable pub unitSeconds : ℕ → ℕ
-unitSeconds unit = getD units unit 0
+unitSeconds unit =
+    cond (eqb unit 0) 600
+    (cond (eqb unit 1) 3600
+    (cond (eqb unit 2) 36000
+    (cond (eqb unit 3) 2
+    (cond (eqb unit 4) 30
+    (cond (eqb unit 5) 60
+    (cond (eqb unit 6) 1152000 0))))))
 
 -- unit 7 means deactivated; count 0 with another unit sets no hold; any other octet says its count times its unit
 unfoldable pub timerOf : ℕ → Timer

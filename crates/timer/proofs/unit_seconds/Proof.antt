@@ -1,7 +1,7 @@
 -- `timer::unit_seconds` meets its contract: the test of the whole table computes, and `entry` turns it into the rule at the unit.
 use borrow.Author.Needs.{needs}
 use Rattle.octets.specs.Search.{all}
-use Rattle.timer.specs.Timer.{units, unitSeconds}
+use Rattle.timer.specs.Timer.{unitSeconds}
 use Rattle.timer.proofs.Table.{agrees, entry}
 use Rattle.timer.proofs.unit_seconds.Statement.{statement}
 use Rattle.timer.proofs.unit_seconds.Tie as tie
@@ -13,7 +13,7 @@ array-read-result : tie.Need-array-read-result
 array-read-result c = search needs
 
 returns : tie.Need-returns
-unfolding agrees all unitSeconds units
+unfolding agrees all unitSeconds
 returns c = search entry
 
 pub unit-seconds-spec : {M : Type 1} → statement M

@@ -18,17 +18,17 @@ carried l p q e s h k = (h ∙ ap (nasOf l) e, k ∙ ap nasLength e)
 read-requires : tie.Need-read-requires
 read-requires c κs = search needs
 
+enum-known-at : tie.Need-enum-known-at
+enum-known-at c = search needs
+
+part-requires : tie.Need-part-requires
+part-requires c κs = request-within _ _ _ _ (sym (c .before .at .given .1) ∙ c .before .before .before .read .ensures)
+
 enum-known-nas : tie.Need-enum-known-nas
 enum-known-nas c = search needs
 
-part-requires : tie.Need-part-requires
-part-requires c κs = request-within _ _ _ _ (sym (c .before .nas .given .1) ∙ c .before .before .before .read .ensures)
-
-enum-known-nas-2 : tie.Need-enum-known-nas-2
-enum-known-nas-2 c = search needs
-
 part-requires-2 : tie.Need-part-requires-2
-part-requires-2 c κs = response-within _ _ _ _ _ _ (sym (c .before .nas2 .given .1) ∙ c .before .before .before .read .ensures)
+part-requires-2 c κs = response-within _ _ _ _ _ _ (sym (c .before .nas .given .1) ∙ c .before .before .before .read .ensures)
 
 enum-told : tie.Need-enum-told
 enum-told c = search needs
@@ -56,11 +56,11 @@ slice-aggregate-result-4 c = search needs
 
 returns : tie.Need-returns
 unfolding nasOf nasLength
-returns c = carried _ _ _ (sym (c .before .before .nas .given .1) ∙ c .before .before .before .before .read .ensures) _ (c .part .ensures .0) (c .part .ensures .1)
+returns c = carried _ _ _ (sym (c .before .before .at .given .1) ∙ c .before .before .before .before .read .ensures) _ (c .part .ensures .0) (c .part .ensures .1)
 
 returns-2 : tie.Need-returns-2
 unfolding nasOf nasLength
-returns-2 c = carried _ _ _ (sym (c .before .before .nas2 .given .1) ∙ c .before .before .before .before .read .ensures) _ (c .part2 .ensures .0) (c .part2 .ensures .1)
+returns-2 c = carried _ _ _ (sym (c .before .before .nas .given .1) ∙ c .before .before .before .before .read .ensures) _ (c .part2 .ensures .0) (c .part2 .ensures .1)
 
 returns-3 : tie.Need-returns-3
 unfolding nasOf nasLength
@@ -83,9 +83,9 @@ nas-of-spec =
     tie.close
     (tie.spec
     read-requires
-    enum-known-nas
+    enum-known-at
     part-requires
-    enum-known-nas-2
+    enum-known-nas
     part-requires-2
     enum-told
     slice-aggregate-result
