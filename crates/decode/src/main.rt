@@ -1,5 +1,4 @@
 // Answers requests about timer octets, names and packets, one line for each line of standard input.
-mod answer;
 mod request;
 
 use libc::STDIN_FILENO;

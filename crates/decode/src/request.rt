@@ -1,5 +1,4 @@
 // Requests, one a line: each is taken apart, and answered where its fields are of their form.
-use crate::answer;
 use fields::Said;
 use fields::count_fields;
 use fields::decimal;
@@ -9,7 +8,7 @@ use fields::find;
 use fields::first;
 use fields::read_octets;
 use octets::slice::same;
-use octets::text::Reading;
+use text::Reading;
 
 // Answers every line of a text.
 pub fn answer_lines(text: &[u8]) {
@@ -24,9 +23,9 @@ pub fn answer_lines(text: &[u8]) {
 // Answers one line.
 fn answer_line(line: &[u8]) {
     if !answered(line) {
-        answer::put_text(b"?");
+        answers::put_text(b"?");
     }
-    answer::put_text(b"\n");
+    answers::put_text(b"\n");
 }
 
 // Answers a line that is a request, and says whether it is.
@@ -84,7 +83,7 @@ fn timer(octet: &[u8]) -> bool {
     let Reading::Number(x) = digits_at(octet, 0, 2, 16) else {
         return false;
     };
-    answer::put_timer((x % 256) as u8);
+    answers::put_timer((x % 256) as u8);
     true
 }
 
@@ -102,7 +101,7 @@ fn operator(country: &[u8], code: &[u8]) -> bool {
     if 999 < mnc {
         return false;
     }
-    answer::put_operator(mcc, mnc);
+    answers::put_operator(mcc, mnc);
     true
 }
 
@@ -114,7 +113,7 @@ fn visited(country: &[u8]) -> bool {
     if 999 < mcc {
         return false;
     }
-    answer::put_visited(mcc);
+    answers::put_visited(mcc);
     true
 }
 
@@ -124,7 +123,7 @@ fn packet(field: &[u8]) -> bool {
     let Said::Octets(n) = read_octets(field, &mut buffer) else {
         return false;
     };
-    answer::put_packet(first(&buffer, n));
+    answers::put_packet(first(&buffer, n));
     true
 }
 
@@ -147,7 +146,7 @@ fn response(line: &[u8]) -> bool {
     let Said::Octets(n) = read_octets(field(line, 4), &mut nas) else {
         return false;
     };
-    answer::put_response(
+    answers::put_response(
         room as usize,
         identifier,
         first(&parameters, m),
@@ -165,7 +164,7 @@ fn parameter(field: &[u8], place: &[u8]) -> bool {
     let Said::Octets(n) = read_octets(field, &mut buffer) else {
         return false;
     };
-    answer::put_parameter(first(&buffer, n), at as usize);
+    answers::put_parameter(first(&buffer, n), at as usize);
     true
 }
 
@@ -175,6 +174,6 @@ fn block(field: &[u8]) -> bool {
     let Said::Octets(n) = read_octets(field, &mut buffer) else {
         return false;
     };
-    answer::put_block(first(&buffer, n));
+    answers::put_block(first(&buffer, n));
     true
 }

@@ -10,10 +10,10 @@ use borrow.Author.Tests.{le-leb, lt-leb, leb-true}
 use Rattle.octets.specs.Digits.{field}
 use Rattle.octets.specs.Part.{part}
 use Rattle.octets.proofs.Search.{and-right}
-use Rattle.eap.specs.Parameters.{wellFormed}
+use Rattle.parameters.specs.Parameters.{wellFormed}
 use Rattle.eap.specs.Packet.{fits, isNas, isParameters}
 use Rattle.eap.specs.Branch.{blockOf}
-use Rattle.eap.specs.declared.packet.Block.the-variants.{Length, Broken}
+use Rattle.eap.specs.declared.Block.the-variants.{Length, Broken}
 
 -- a broken block failed its test
 pub broken : (t : Bool) (n : ℕ) → Broken ≡ blockOf t n → t ≡ false

@@ -10,7 +10,7 @@ use borrow.Author.Tests.{le-leb, lt-leb, leb-true, eq-eqb, ne-eqb}
 use Rattle.octets.proofs.Search.{and-left}
 use Rattle.eap.specs.Packet.{isSuccess, isExpanded, isMessage, isNasRequest, isNasResponse, code, identifier, lengthField, typeField, vendor, vendorType, message, readPacket}
 use Rattle.eap.specs.Branch.{requestOf, responseOf}
-use Rattle.eap.specs.declared.packet.Packet.the-variants.{Start, Success, Stop, Other}
+use Rattle.eap.specs.declared.Packet.the-variants.{Start, Success, Stop, Other}
 
 module _ (l : List ℕ) where
   -- fewer than 14 octets

@@ -1,7 +1,4 @@
--- The laws that the proofs of this crate share.
+-- The laws of reading packets, for the proofs of this crate and of those above it.
 pub mod Blocks
 pub mod Headers
 pub mod Reading
-pub mod Round
-pub mod Walk
-pub mod Writing

@@ -10,9 +10,9 @@ use borrow.Author.Tests.{leb-true, eqb-true}
 use Rattle.octets.specs.Digits.{field}
 use Rattle.octets.specs.Part.{part}
 use Rattle.octets.proofs.Search.{and-left, and-right}
-use Rattle.eap.specs.Parameters.{wellFormed}
+use Rattle.parameters.specs.Parameters.{wellFormed}
 use Rattle.eap.specs.Packet.{code, identifier, lengthField, typeField, vendor, vendorType, message, fits, isExpanded, isMessage, isNas, isParameters, isSuccess, isNasRequest, isNasResponse, nasPlace, readPacket}
-use Rattle.eap.specs.declared.packet.Packet.the-variants.{Start, NasRequest, Success, NasResponse, Stop, Other}
+use Rattle.eap.specs.declared.Packet.the-variants.{Start, NasRequest, Success, NasResponse, Stop, Other}
 use Rattle.eap.proofs.Blocks.{fits-within}
 
 module _ (l : List ℕ) where

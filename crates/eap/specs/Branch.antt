@@ -4,10 +4,10 @@ use mathlib.Core.Bool.{Bool, cond, _&&_}
 use mathlib.Core.List.{List}
 use Rattle.octets.specs.Digits.{field}
 use Rattle.eap.specs.Packet.{identifier, isNas, isParameters, nasPlace}
-use Rattle.eap.specs.declared.packet.Block.{Block}
-use Rattle.eap.specs.declared.packet.Block.the-variants.{Length, Broken}
-use Rattle.eap.specs.declared.packet.Packet.{Packet}
-use Rattle.eap.specs.declared.packet.Packet.the-variants.{NasRequest, NasResponse, Other}
+use Rattle.eap.specs.declared.Block.{Block}
+use Rattle.eap.specs.declared.Block.the-variants.{Length, Broken}
+use Rattle.eap.specs.declared.Packet.{Packet}
+use Rattle.eap.specs.declared.Packet.the-variants.{NasRequest, NasResponse, Other}
 
 -- octets behind their length, where a test of them passes
 unfoldable pub blockOf : Bool → ℕ → Block

@@ -2,13 +2,12 @@
 use Prim.Native.Nat.{ℕ}
 use mathlib.Core.List.{List, [], _∷_, map}
 use mathlib.Core.Path.{_≡_, refl}
-use Rattle.octets.specs.Digits.{be, digits, field, number, numberFrom}
+use Rattle.octets.specs.Digits.{field, number, numberFrom}
 use Rattle.octets.specs.Part.{part}
 use Rattle.eap.specs.Packet.{code, identifier, lengthField, typeField, vendor, vendorType, message, isSuccess, isExpanded, isMessage, fits, isNas, isParameters, isNasRequest, nasPlace, isNasResponse, readPacket}
-use Rattle.eap.specs.Parameters.{wellFormed, wellFormedIn}
-use Rattle.eap.specs.Response.{header, block, response}
-use Rattle.eap.specs.declared.packet.Packet.{Packet}
-use Rattle.eap.specs.declared.packet.Packet.the-variants.{Start, Success, NasResponse}
+use Rattle.parameters.specs.Parameters.{wellFormed, wellFormedIn}
+use Rattle.eap.specs.declared.Packet.{Packet}
+use Rattle.eap.specs.declared.Packet.the-variants.{Start, Success, NasResponse}
 
 -- octets and the packet that they are
 pub record Example : Type 0 where
@@ -39,7 +38,3 @@ said e = e .packet
 pub computed : map found examples ≡ map said examples
 unfolding examples laterReply found said readPacket isSuccess isMessage isExpanded isNasRequest isNasResponse isNas isParameters fits nasPlace code identifier lengthField typeField vendor vendorType message wellFormed wellFormedIn field part number numberFrom
 computed = refl
-
-pub computed-reply : response 7 [] (0x7E ∷ []) ≡ laterReply
-unfolding laterReply response header block be digits
-computed-reply = refl

@@ -6,9 +6,9 @@ use lib.Dec.{leb, eqb}
 use lib.ListN.{length}
 use Rattle.octets.specs.Digits.{field}
 use Rattle.octets.specs.Part.{part}
-use Rattle.eap.specs.Parameters.{wellFormed}
-use Rattle.eap.specs.declared.packet.Packet.{Packet}
-use Rattle.eap.specs.declared.packet.Packet.the-variants.{Start, NasRequest, Success, NasResponse, Stop, Other}
+use Rattle.parameters.specs.Parameters.{wellFormed}
+use Rattle.eap.specs.declared.Packet.{Packet}
+use Rattle.eap.specs.declared.Packet.the-variants.{Start, NasRequest, Success, NasResponse, Stop, Other}
 
 -- 1 is a request, 2 a response, 3 Success
 unfoldable pub code : List ℕ → ℕ

@@ -1,7 +1,7 @@
 // Fields of a line of text, and the numbers and octets that they say.
 use octets::slice::part;
-use octets::text::Reading;
-use octets::text::read_digits;
+use text::Reading;
+use text::read_digits;
 ghost use Prim.Native.Nat.{_+_, _≤_};
 ghost use lib.ListN.{length};
 

@@ -6,7 +6,7 @@ use native.Mathlib.Omega.{arith}
 use lib.ListN.{length}
 use Rattle.octets.specs.Digits.{digits}
 use Rattle.octets.specs.Part.{zeros, Wrote}
-use Rattle.octets.specs.Text.{text, digitText}
+use Rattle.text.specs.Text.{text, digitText}
 use Rattle.octets.proofs.Parts.{padded-wrote}
 use Rattle.network.specs.Name.{operatorName, visitedName, Named}
 use Rattle.network.specs.declared.Plmn.{Plmn}

@@ -4,7 +4,7 @@ use mathlib.Core.List.{List, [], _∷_, map}
 use mathlib.Core.Path.{_≡_, refl}
 use lib.ListN.{length}
 use Rattle.octets.specs.Digits.{digits}
-use Rattle.octets.specs.Text.{text, character, digitText}
+use Rattle.text.specs.Text.{text, character, digitText}
 use Rattle.network.specs.Name.{operatorName, visitedName}
 
 -- a name, its text and its length

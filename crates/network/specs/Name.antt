@@ -4,7 +4,7 @@ use mathlib.Core.List.{List, _++_}
 use mathlib.Core.Path.{_≡_}
 use lib.ListN.{length}
 use Rattle.octets.specs.Part.{padded}
-use Rattle.octets.specs.Text.{text, digitText}
+use Rattle.text.specs.Text.{text, digitText}
 use Rattle.network.specs.declared.Plmn.{Plmn}
 
 -- the name of an operator's network has its MNC and its MCC in three digits each (TS 23.003 clause 28)

@@ -1,12 +1,12 @@
 // Networks, each known by its PLMN, and the names under which their N3IWFs are looked up.
 use octets::slice::copy;
 use octets::slice::zero;
-use octets::text::put_digits;
+use text::put_digits;
 ghost use mathlib.Core.List.{_++_};
 ghost use Prim.Native.Nat.{_+_, _≤_};
 ghost use lib.ListN.{length};
 ghost use Rattle.octets.specs.Part.{Wrote};
-ghost use Rattle.octets.specs.Text.{digitText};
+ghost use Rattle.text.specs.Text.{digitText};
 ghost use Rattle.network.specs.Name.{operatorName, visitedName, Named};
 ghost use Rattle.network.specs.Laws.{Laws};
 

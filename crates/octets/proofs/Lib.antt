@@ -4,4 +4,3 @@ pub mod Fields
 pub mod Parts
 pub mod Refusals
 pub mod Search
-pub mod Texts

@@ -2,12 +2,10 @@
 use Prim.Native.Nat.{ℕ, _+_, _*_, _^_, _≤_, _<_}
 use mathlib.Core.Bool.{Bool, true, false}
 use mathlib.Core.List.{List, _++_}
-use mathlib.Core.Option.{some}
 use mathlib.Core.Path.{_≡_}
 use lib.Dec.{ltb}
 use lib.ListN.{length}
 use Rattle.octets.specs.Digits.{digits, number}
-use Rattle.octets.specs.Text.{digitText, readDigits}
 use Rattle.octets.specs.Part.{same}
 use Rattle.octets.specs.Search.{all, least, allOf}
 use Rattle.octets.specs.Refusal.{Refusal, refusal, Rising, Applies}
@@ -23,10 +21,6 @@ pub record Laws : Type 0 where
   pub digits-number : (b : ℕ) (ds : List ℕ) → allOf (below b) ds ≡ true → digits b (length ds) (number b ds) ≡ ds
   -- a number of two halves is written half by half
   pub digits-halves : (b m n high low : ℕ) → low < b ^ n → digits b (m + n) (high * b ^ n + low) ≡ digits b m high ++ digits b n low
-  -- a written text is read as its number
-  pub read-text : (b n x : ℕ) → b ≤ 16 → x < b ^ n → readDigits b (digitText b n x) ≡ some x
-  -- a text that is read is written back
-  pub write-text : (b x : ℕ) (l : List ℕ) → b ≤ 16 → readDigits b l ≡ some x → digitText b (length l) x ≡ l
   -- two lists hold the same octets exactly if they are equal
   pub same-equal : (l m : List ℕ) → same l m ≡ true → l ≡ m
   pub equal-same : (l : List ℕ) → same l l ≡ true

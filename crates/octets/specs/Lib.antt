@@ -1,6 +1,5 @@
--- What numbers are as octets and as texts, and the vocabulary that the other crates' definitions share.
+-- What numbers are as octets, and the vocabulary that the other crates' definitions share.
 pub mod Digits
-pub mod Text
 pub mod Part
 pub mod Search
 pub mod Refusal

@@ -1,7 +1,6 @@
-// Numbers as octets and as texts, and slices of octets.
+// Numbers as octets, and slices of octets.
 pub mod number;
 pub mod slice;
-pub mod text;
 
 ghost use Rattle.octets.specs.Laws.{Laws};
 

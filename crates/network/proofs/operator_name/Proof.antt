@@ -3,7 +3,7 @@
 use mathlib.Core.Path.{refl}
 use borrow.Author.Needs.{needs}
 use Rattle.octets.specs.Digits.{digits}
-use Rattle.octets.specs.Text.{text, digitText}
+use Rattle.text.specs.Text.{text, digitText}
 use Rattle.octets.proofs.Parts.{then}
 use Rattle.network.specs.Name.{operatorName}
 use Rattle.network.proofs.Names.{named}

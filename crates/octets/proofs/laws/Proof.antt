@@ -3,7 +3,6 @@ use Rattle.octets.proofs.Digits.{number-digits, digits-number, digits-h
 use Rattle.octets.proofs.Parts.{same-equal, equal-same}
 use Rattle.octets.proofs.Refusals.{refusal-lowest, refusal-none}
 use Rattle.octets.proofs.Search.{all-each, each-all, least-bound, least-passes, least-first}
-use Rattle.octets.proofs.Texts.{read-text, write-text}
 use Rattle.octets.proofs.laws.Statement.{statement}
 use Rattle.octets.proofs.laws.Tie as tie
 
@@ -12,8 +11,6 @@ returns c = record {
   number-digits = number-digits;
   digits-number = digits-number;
   digits-halves = digits-halves;
-  read-text = read-text;
-  write-text = write-text;
   same-equal = same-equal;
   equal-same = equal-same;
   all-each = all-each;

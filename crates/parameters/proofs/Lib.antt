@@ -1,0 +1,2 @@
+-- The laws of the walk over AN-parameters.
+pub mod Walk

@@ -1,0 +1,2 @@
+-- What AN-parameters are.
+pub mod Parameters

@@ -1,0 +1,31 @@
+-- AN-parameters: each is a type octet, a length octet and that many octets.
+use Prim.Native.Nat.{ℕ, zero, suc, _+_}
+use mathlib.Core.Bool.{Bool, true, false, cond, _&&_}
+use mathlib.Core.List.{List, [], _∷_}
+use lib.Dec.{leb, eqb}
+use lib.ListN.{length, drop}
+use Rattle.octets.specs.Digits.{field}
+use Rattle.parameters.specs.declared.Parameter.{Parameter}
+use Rattle.parameters.specs.declared.Parameter.the-variants.{Whole, End, Broken}
+
+-- at most n AN-parameters follow one another and end exactly with the list
+unfoldable pub wellFormedIn : ℕ → List ℕ → Bool
+wellFormedIn zero [] = true
+wellFormedIn zero (type ∷ rest) = false
+wellFormedIn (suc n) [] = true
+wellFormedIn (suc n) (type ∷ []) = false
+wellFormedIn (suc n) (type ∷ size ∷ rest) = leb size (length rest) && wellFormedIn n (drop size rest)
+
+-- a block is AN-parameters that end exactly, at most as many as it has octets
+unfoldable pub wellFormed : List ℕ → Bool
+wellFormed l = wellFormedIn (length l) l
+
+-- how many octets the value of the AN-parameter at a place has
+unfoldable pub size : List ℕ → ℕ → ℕ
+size l at = field l (at + 1) 1
+
+-- the AN-parameter at a place of a block: type, where its value starts, how long that is, and the next place
+unfoldable pub parameterAt : List ℕ → ℕ → Parameter
+parameterAt l at =
+    cond (eqb at (length l)) End
+    (cond (leb (at + 2) (length l) && leb (at + 2 + size l at) (length l)) (Whole (field l at 1) (at + 2) (size l at) (at + 2 + size l at)) Broken)

@@ -1,0 +1,4 @@
+-- How NAS responses are written.
+pub mod Response
+pub mod Laws
+pub mod Examples

@@ -1,0 +1,86 @@
+// The writer of NAS responses.
+use octets::number::put;
+use octets::slice::copy;
+use octets::slice::zero;
+use parameters::well_formed;
+ghost use mathlib.Core.Path.{_≡_};
+ghost use Prim.Native.Nat.{_+_, _≤_, _<_};
+ghost use lib.ListN.{length};
+ghost use Rattle.octets.specs.Part.{Wrote};
+ghost use Rattle.response.specs.Laws.{Laws};
+ghost use Rattle.response.specs.Response.{block, header, writeRefusal, written};
+
+// The smallest buffer that a response is written to.
+const ROOM: usize = 3090;
+
+// The refusal number for what is lent, 0 where there is none.
+fn refusal(identifier: u64, parameters: &[u8], nas: &[u8], room: usize) -> u64
+    ensures { λ r. ⌜ r ≡ writeRefusal identifier (now (parameters .entry)) (now (nas .entry)) room ⌝ }
+{
+    if room < ROOM {
+        return 3;
+    }
+    if 255 < identifier {
+        return 8;
+    }
+    if 1024 < parameters.len() {
+        return 8;
+    }
+    if nas.len() < 1 {
+        return 8;
+    }
+    if 2048 < nas.len() {
+        return 8;
+    }
+    if !well_formed(parameters) {
+        return 9;
+    }
+    0
+}
+
+// Stores the header of a NAS response.
+fn put_header(packet: &mut [u8], identifier: u64, size: u64)
+    requires { ⌜ 14 ≤ length (now packet) ⌝ }
+    ensures { λ _. ⌜ Wrote (now (packet .entry)) 0 (header 2 identifier size 2) (now (packet .exit)) ⌝ }
+{
+    put(packet, 0, 1, 2);
+    put(packet, 1, 1, identifier);
+    put(packet, 2, 2, size);
+    put(packet, 4, 1, 254);
+    put(packet, 5, 3, 10415);
+    put(packet, 8, 4, 3);
+    put(packet, 12, 1, 2);
+    put(packet, 13, 1, 0);
+}
+
+// Stores octets behind their length.
+fn put_block(packet: &mut [u8], at: usize, octets: &[u8])
+    requires { ⌜ at + 2 + length (now octets) ≤ length (now packet) ⌝ }
+    ensures { λ _. ⌜ Wrote (now (packet .entry)) at (block (now (octets .entry))) (now (packet .exit)) ⌝ }
+{
+    put(packet, at, 2, octets.len() as u64);
+    copy(octets, packet, at + 2);
+}
+
+// Writes a NAS response and zeros after it, or zeros alone and the number of the refusal.
+pub fn write_response(identifier: u64, parameters: &[u8], nas: &[u8], packet: &mut [u8]) -> u64
+    ensures refused { λ r. ⌜ r ≡ writeRefusal identifier (now (parameters .entry)) (now (nas .entry)) (length (now (packet .entry))) ⌝ }
+    ensures buffer { λ _. ⌜ now (packet .exit) ≡ written identifier (now (parameters .entry)) (now (nas .entry)) (length (now (packet .entry))) ⌝ }
+{
+    zero(packet);
+    let number = refusal(identifier, parameters, nas, packet.len());
+    if number != 0 {
+        return number;
+    }
+    let m = parameters.len();
+    let n = nas.len();
+    put_header(packet, identifier, (18 + m + n) as u64);
+    put_block(packet, 14, parameters);
+    put_block(packet, 16 + m, nas);
+    0
+}
+
+// Does nothing; its promise is that writing and reading undo each other.
+pub fn laws()
+    ensures { λ _. ⌜ Laws ⌝ }
+{}

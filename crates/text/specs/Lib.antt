@@ -1,0 +1,3 @@
+-- What texts are as octets, and numbers as texts.
+pub mod Text
+pub mod Laws
