@@ -4,9 +4,9 @@ use fields::count_fields;
 use fields::decimal;
 use fields::digits_at;
 use fields::field;
-use fields::find;
 use fields::first;
 use fields::read_octets;
+use octets::slice::find;
 use octets::slice::same;
 use text::Reading;
 
@@ -14,7 +14,7 @@ use text::Reading;
 pub fn answer_lines(text: &[u8]) {
     let mut at = 0;
     while at < text.len() {
-        let end = find(text, at, b'\n');
+        let end = find(text, at, text.len(), b'\n');
         answer_line(&text[at..end]);
         at = end + 1;
     }

@@ -1,4 +1,5 @@
 // Fields of a line of text, and the numbers and octets that they say.
+use octets::slice::find;
 use octets::slice::part;
 use text::Reading;
 use text::read_digits;
@@ -11,21 +12,6 @@ pub enum Said {
     NotOctets,
 }
 
-// The place of the first octet c from `at` on, or the length where there is none.
-pub fn find(s: &[u8], at: usize, c: u8) -> usize
-    requires { ⌜ at ≤ length (now s) ⌝ }
-    ensures { λ r. ⌜ (at ≤ r) × (r ≤ length (now (s .entry))) ⌝ }
-{
-    let mut i = at;
-    while i < s.len() {
-        if s[i] == c {
-            return i;
-        }
-        i += 1;
-    }
-    i
-}
-
 // Where the field after so many tabs starts, or the length where there are fewer.
 fn field_start(line: &[u8], tabs: usize) -> usize
     ensures { λ r. ⌜ r ≤ length (now (line .entry)) ⌝ }
@@ -33,7 +19,7 @@ fn field_start(line: &[u8], tabs: usize) -> usize
     let mut at = 0;
     let mut left = tabs;
     while 0 < left {
-        let tab = find(line, at, b'\t');
+        let tab = find(line, at, line.len(), b'\t');
         if tab == line.len() {
             return tab;
         }
@@ -46,17 +32,17 @@ fn field_start(line: &[u8], tabs: usize) -> usize
 // The field after so many tabs, empty where there are fewer.
 pub fn field(line: &[u8], tabs: usize) -> &[u8] {
     let from = field_start(line, tabs);
-    let to = find(line, from, b'\t');
+    let to = find(line, from, line.len(), b'\t');
     &line[from..to]
 }
 
 // How many fields a line has.
 pub fn count_fields(line: &[u8]) -> usize {
     let mut n = 1;
-    let mut at = find(line, 0, b'\t');
+    let mut at = find(line, 0, line.len(), b'\t');
     while at < line.len() {
         n += 1;
-        at = find(line, at + 1, b'\t');
+        at = find(line, at + 1, line.len(), b'\t');
     }
     n
 }

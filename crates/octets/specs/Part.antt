@@ -1,10 +1,10 @@
 -- Octets within a list: a part of it, octets spliced into it, and a text padded with zeros.
-use Prim.Native.Nat.{ℕ, _-_}
+use Prim.Native.Nat.{ℕ, _+_, _-_}
 use mathlib.Core.Bool.{Bool, true, false, _&&_}
 use mathlib.Core.List.{List, [], _∷_, _++_}
 use mathlib.Core.Path.{_≡_}
 use lib.Dec.{eqb}
-use lib.ListN.{length, take, drop, replicate}
+use lib.ListN.{length, getD, take, drop, replicate}
 use lib.Seq.{sets}
 
 -- the n octets of l from a place
@@ -25,6 +25,10 @@ same [] [] = true
 same [] (y ∷ ys) = false
 same (x ∷ xs) [] = false
 same (x ∷ xs) (y ∷ ys) = eqb x y && same xs ys
+
+-- the octet k places on from a place is x
+unfoldable pub holds : List ℕ → ℕ → ℕ → ℕ → Bool
+holds l from x k = eqb (getD l (from + k) 0) x
 
 -- m is l with vs spliced in: stored over its octets one after another from a place
 pub record Wrote (l : List ℕ) (at : ℕ) (vs m : List ℕ) : Type 0 where

@@ -1,8 +1,9 @@
 // Slices of octets: cleared, copied, compared, and a part handed back.
 ghost use mathlib.Core.Path.{_≡_};
-ghost use Prim.Native.Nat.{_+_, _≤_};
+ghost use Prim.Native.Nat.{_+_, _-_, _≤_};
 ghost use lib.ListN.{length};
-ghost use Rattle.octets.specs.Part.{part, same, zeros, Wrote};
+ghost use Rattle.octets.specs.Part.{holds, part, same, zeros, Wrote};
+ghost use Rattle.octets.specs.Search.{least};
 
 // Fills a slice with zeros.
 pub fn zero(s: &mut [u8])
@@ -50,4 +51,19 @@ pub fn part(s: &[u8], at: usize, n: usize) -> &[u8]
     ensures { λ r. ⌜ (now r ≡ part (now (s .entry)) at n) × (length (now r) ≡ n) ⌝ }
 {
     &s[at..at + n]
+}
+
+// The first place from `from` on that holds x, or `to` where none before it does.
+pub fn find(s: &[u8], from: usize, to: usize, x: u8) -> usize
+    requires { ⌜ (from ≤ to) × (to ≤ length (now s)) ⌝ }
+    ensures { λ r. ⌜ (r ≡ from + least (to - from) (holds (now (s .entry)) from x)) × (from ≤ r) × (r ≤ to) ⌝ }
+{
+    let mut i = from;
+    while i < to {
+        if s[i] == x {
+            return i;
+        }
+        i += 1;
+    }
+    i
 }

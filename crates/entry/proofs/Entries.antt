@@ -1,0 +1,196 @@
+-- What the tests of words, lengths and places come to.
+use Prim.Native.Nat.{ℕ, _+_, _-_, _≤_, zero-le}
+use mathlib.Core.Bool.{Bool, true, false}
+use mathlib.Core.List.{List, [], _∷_}
+use mathlib.Core.Option.{Option, none, some}
+use mathlib.Core.Path.{_≡_, refl, sym, ap, _∙_}
+use native.Mathlib.Nat.{sub-zero, suc-ne-zero}
+use native.Mathlib.Omega.{arith}
+use lib.Dec.{eqb}
+use lib.ListN.{length, drop}
+use borrow.Author.Tests.{eq-eqb, ne-eqb}
+use Rattle.octets.specs.Part.{part, same, holds}
+use Rattle.octets.specs.Search.{least}
+use Rattle.octets.proofs.Parts.{length-part}
+use Rattle.text.specs.Text.{text, readDigits, numberRead}
+use Rattle.text.specs.declared.Reading.{Reading}
+use Rattle.text.specs.declared.Reading.the-variants.{Number, NotDigits}
+use Rattle.network.specs.declared.Plmn.{Plmn}
+use Rattle.entry.specs.Entry.{barEntry, homeEntry, plmnEntry, nameEntry, v4From, v4Entry, v6From, v6Entry, nodeEntry, three, four, entryOf, lineEntry}
+use Rattle.entry.specs.Field.{plmnOf, plmnRead, priorityOf}
+use Rattle.entry.specs.Pieces.{before, pieces}
+use Rattle.entry.specs.declared.Entry.the-variants.{Preference, End, Bad}
+use Rattle.entry.specs.declared.field.PlmnField.{PlmnField}
+use Rattle.entry.specs.declared.field.PlmnField.the-variants.{Is, Not}
+use Rattle.entry.proofs.Splits.{split, whole}
+
+-- the word of a line picks its kind
+module _ (k l : List ℕ) where
+  pub by-name : same k (text "name") ≡ true → nameEntry l ≡ nodeEntry k l
+  unfolding nodeEntry
+  by-name e = rw e
+
+  module _ (not-name : same k (text "name") ≡ false) where
+    pub by-v4 : same k (text "v4") ≡ true → v4Entry l ≡ nodeEntry k l
+    unfolding nodeEntry
+    by-v4 e = rw (not-name, e)
+
+    module _ (not-v4 : same k (text "v4") ≡ false) where
+      pub by-v6 : same k (text "v6") ≡ true → v6Entry l ≡ nodeEntry k l
+      unfolding nodeEntry
+      by-v6 e = rw (not-name, not-v4, e)
+
+      pub no-kind : same k (text "v6") ≡ false → Bad ≡ nodeEntry k l
+      unfolding nodeEntry
+      no-kind e = rw (not-name, not-v4, e)
+
+module _ (w a b : List ℕ) where
+  pub by-home : same w (text "home") ≡ true → homeEntry (plmnOf a b) ≡ three w a b
+  unfolding three
+  by-home e = rw e
+
+  module _ (not-home : same w (text "home") ≡ false) where
+    pub by-bar : same w (text "bar") ≡ true → barEntry (plmnOf a b) ≡ three w a b
+    unfolding three
+    by-bar e = rw (not-home, e)
+
+    module _ (not-bar : same w (text "bar") ≡ false) where
+      pub by-node : same w (text "node") ≡ true → nodeEntry a b ≡ three w a b
+      unfolding three
+      by-node e = rw (not-home, not-bar, e)
+
+      pub no-word : same w (text "node") ≡ false → Bad ≡ three w a b
+      unfolding three
+      no-word e = rw (not-home, not-bar, e)
+
+module _ (w a b c : List ℕ) where
+  pub not-plmn : same w (text "plmn") ≡ false → Bad ≡ four w a b c
+  unfolding four
+  not-plmn e = rw e
+
+  module _ (is-plmn : same w (text "plmn") ≡ true) where
+    pub no-network : plmnOf a b ≡ none → Bad ≡ four w a b c
+    unfolding four plmnEntry
+    no-network e = rw (is-plmn, e)
+
+    module _ {p : Plmn} (network : plmnOf a b ≡ some p) where
+      pub no-priority : priorityOf c ≡ none → Bad ≡ four w a b c
+      unfolding four plmnEntry
+      no-priority e = rw (is-plmn, network, e)
+
+      pub preference : {x : ℕ} → priorityOf c ≡ some x → Preference (record { plmn = p; priority = x }) ≡ four w a b c
+      unfolding four plmnEntry
+      preference e = rw (is-plmn, network, e)
+
+-- what a reading of a PLMN says
+module _ (a b : List ℕ) (r : PlmnField) (read : plmnRead r ≡ plmnOf a b) where
+  pub plmn-said : {p : Plmn} → r ≡ Is p → plmnOf a b ≡ some p
+  unfolding plmnRead
+  plmn-said e = sym read ∙ ap plmnRead e
+
+  pub no-plmn-said : r ≡ Not → plmnOf a b ≡ none
+  unfolding plmnRead
+  no-plmn-said e = sym read ∙ ap plmnRead e
+
+-- what a reading of a part says
+module _ (o : Option ℕ) (r : Reading) (read : numberRead r ≡ o) where
+  pub said : {x : ℕ} → r ≡ Number x → o ≡ some x
+  unfolding numberRead
+  said e = sym read ∙ ap numberRead e
+
+  pub unsaid : r ≡ NotDigits → o ≡ none
+  unfolding numberRead
+  unsaid e = sym read ∙ ap numberRead e
+
+module _ (l : List ℕ) where
+  pub v4-size : (length l ≡ 8 → ⊥) → Bad ≡ v4Entry l
+  unfolding v4Entry
+  v4-size h = rw (ne-eqb (length l) 8 h)
+
+  pub v4-is : length l ≡ 8 → v4From (readDigits 16 l) ≡ v4Entry l
+  unfolding v4Entry
+  v4-is e = rw (eq-eqb (length l) 8 e)
+
+  pub v6-size : (length l ≡ 32 → ⊥) → Bad ≡ v6Entry l
+  unfolding v6Entry
+  v6-size h = rw (ne-eqb (length l) 32 h)
+
+  pub v6-no-high : length l ≡ 32 → readDigits 16 (part l 0 16) ≡ none → Bad ≡ v6Entry l
+  unfolding v6Entry v6From
+  v6-no-high e h = rw (eq-eqb (length l) 32 e, h)
+
+  pub v6-is : length l ≡ 32 → v6From (readDigits 16 (part l 0 16)) (readDigits 16 (part l 16 16)) ≡ v6Entry l
+  unfolding v6Entry
+  v6-is e = rw (eq-eqb (length l) 32 e)
+
+-- a text has a first piece
+some-piece : (x : ℕ) (l : List ℕ) → (p : List ℕ) × (ps : List (List ℕ)) × (pieces x l ≡ p ∷ ps)
+unfolding pieces before
+some-piece x [] = ([], [], refl)
+some-piece x (c ∷ l) = go (eqb c x) (pieces x l)
+  where
+    go : (t : Bool) (qs : List (List ℕ)) → (p : List ℕ) × (ps : List (List ℕ)) × (before t c qs ≡ p ∷ ps)
+    go true qs = ([], qs, refl)
+    go false [] = (c ∷ [], [], refl)
+    go false (q ∷ qs) = (c ∷ q, qs, refl)
+
+-- a line by the places of its tabs
+module _ (l : List ℕ) (a : ℕ) (within : a ≤ length l) (found : a ≡ 0 + least (length l - 0) (holds l 0 9)) where
+  pub one-field : a ≡ length l → pieces 9 l ≡ part l 0 a ∷ []
+  one-field e = whole l 9 0 a zero-le found e ∙ ap (λ (k : ℕ). part l 0 k ∷ []) (sub-zero a)
+
+  pub ends : a ≡ length l → length l ≡ 0 → End ≡ lineEntry l
+  unfolding lineEntry entryOf
+  ends e z = go (part l 0 a) (length-part l 0 a (omega arith)) (one-field e)
+    where
+      go : (m : List ℕ) → length m ≡ a → pieces 9 l ≡ m ∷ [] → End ≡ entryOf (pieces 9 l)
+      go [] q h = rw h
+      go (x ∷ m) q h = absurd (suc-ne-zero (length m) (q ∙ e ∙ z))
+
+  pub lone : a ≡ length l → (length l ≡ 0 → ⊥) → Bad ≡ lineEntry l
+  unfolding lineEntry entryOf
+  lone e z = go (part l 0 a) (length-part l 0 a (omega arith)) (one-field e)
+    where
+      go : (m : List ℕ) → length m ≡ a → pieces 9 l ≡ m ∷ [] → Bad ≡ entryOf (pieces 9 l)
+      go [] q h = absurd (z (sym e ∙ sym q))
+      go (x ∷ m) q h = rw h
+
+  module _ (tab : a ≡ length l → ⊥) (b : ℕ) (within-b : b ≤ length l) (after : a + 1 ≤ b) (found-b : b ≡ a + 1 + least (length l - (a + 1)) (holds l (a + 1) 9)) where
+    first : pieces 9 l ≡ part l 0 a ∷ pieces 9 (drop (a + 1) l)
+    first = split l 9 0 a zero-le found tab ∙ ap (λ (k : ℕ). part l 0 k ∷ pieces 9 (drop (a + 1) l)) (sub-zero a)
+
+    pub pair : b ≡ length l → Bad ≡ lineEntry l
+    unfolding lineEntry entryOf
+    pair e = rw (first, whole l 9 (a + 1) b (omega arith) found-b e)
+
+    module _ (tab-b : b ≡ length l → ⊥) (c : ℕ) (within-c : c ≤ length l) (after-b : b + 1 ≤ c) (found-c : c ≡ b + 1 + least (length l - (b + 1)) (holds l (b + 1) 9)) where
+      second : pieces 9 l ≡ part l 0 a ∷ part l (a + 1) (b - a - 1) ∷ pieces 9 (drop (b + 1) l)
+      second =
+          let size : b - (a + 1) ≡ b - a - 1 = omega arith in
+          first ∙ ap (λ (ps : List (List ℕ)). part l 0 a ∷ ps) (split l 9 (a + 1) b (omega arith) found-b tab-b)
+          ∙ ap (λ (k : ℕ). part l 0 a ∷ part l (a + 1) k ∷ pieces 9 (drop (b + 1) l)) size
+
+      pub of-three : c ≡ length l → three (part l 0 a) (part l (a + 1) (b - a - 1)) (part l (b + 1) (c - b - 1)) ≡ lineEntry l
+      unfolding lineEntry entryOf
+      of-three e =
+          let size : c - (b + 1) ≡ c - b - 1 = omega arith in
+          rw (second, whole l 9 (b + 1) c (omega arith) found-c e, size)
+
+      module _ (tab-c : c ≡ length l → ⊥) (d : ℕ) (found-d : d ≡ c + 1 + least (length l - (c + 1)) (holds l (c + 1) 9)) where
+        third : pieces 9 l ≡ part l 0 a ∷ part l (a + 1) (b - a - 1) ∷ part l (b + 1) (c - b - 1) ∷ pieces 9 (drop (c + 1) l)
+        third =
+            let size : c - (b + 1) ≡ c - b - 1 = omega arith in
+            second ∙ ap (λ (ps : List (List ℕ)). part l 0 a ∷ part l (a + 1) (b - a - 1) ∷ ps) (split l 9 (b + 1) c (omega arith) found-c tab-c)
+            ∙ ap (λ (k : ℕ). part l 0 a ∷ part l (a + 1) (b - a - 1) ∷ part l (b + 1) k ∷ pieces 9 (drop (c + 1) l)) size
+
+        pub of-four : d ≡ length l → four (part l 0 a) (part l (a + 1) (b - a - 1)) (part l (b + 1) (c - b - 1)) (part l (c + 1) (d - c - 1)) ≡ lineEntry l
+        unfolding lineEntry entryOf
+        of-four e =
+            let size : d - (c + 1) ≡ d - c - 1 = omega arith in
+            rw (third, whole l 9 (c + 1) d (omega arith) found-d e, size)
+
+        pub more : (d ≡ length l → ⊥) → Bad ≡ lineEntry l
+        unfolding lineEntry entryOf
+        more h =
+            let s = some-piece 9 (drop (d + 1) l) in
+            rw (third, split l 9 (c + 1) d (omega arith) found-d h, s .2)

@@ -1,0 +1,80 @@
+-- One line of the configuration text, by its fields.
+use Prim.Native.Nat.{ℕ}
+use mathlib.Core.Bool.{cond}
+use mathlib.Core.List.{List, [], _∷_}
+use mathlib.Core.Option.{Option, none, some}
+use lib.Dec.{eqb}
+use lib.ListN.{length}
+use Rattle.octets.specs.Part.{part, same}
+use Rattle.text.specs.Text.{text, readDigits}
+use Rattle.network.specs.declared.Plmn.{Plmn}
+use Rattle.address.specs.declared.Address.the-variants.{V4, V6}
+use Rattle.entry.specs.Field.{plmnOf, priorityOf, isName}
+use Rattle.entry.specs.Pieces.{pieces}
+use Rattle.entry.specs.declared.Entry.{Entry}
+use Rattle.entry.specs.declared.Entry.the-variants.{Home, Name, Node, Preference, Bar, End, Bad}
+
+-- `home` and `bar` go on with a PLMN
+unfoldable pub homeEntry : Option Plmn → Entry
+homeEntry none = Bad
+homeEntry (some p) = Home p
+
+unfoldable pub barEntry : Option Plmn → Entry
+barEntry none = Bad
+barEntry (some p) = Bar p
+
+-- `plmn` goes on with a PLMN and its priority
+unfoldable pub plmnEntry : Option Plmn → Option ℕ → Entry
+plmnEntry none x = Bad
+plmnEntry (some p) none = Bad
+plmnEntry (some p) (some x) = Preference (record { plmn = p; priority = x })
+
+-- a node name is kept as its place in the text, so that only its length is told here
+unfoldable pub nameEntry : List ℕ → Entry
+nameEntry l = cond (isName l) (Name (length l)) Bad
+
+unfoldable pub v4From : Option ℕ → Entry
+v4From none = Bad
+v4From (some x) = Node (V4 x)
+
+-- version 4 has 8 hexadecimal digits
+unfoldable pub v4Entry : List ℕ → Entry
+v4Entry l = cond (eqb (length l) 8) (v4From (readDigits 16 l)) Bad
+
+unfoldable pub v6From : Option ℕ → Option ℕ → Entry
+v6From none y = Bad
+v6From (some x) none = Bad
+v6From (some x) (some y) = Node (V6 x y)
+
+-- version 6 has 32, kept as two halves
+unfoldable pub v6Entry : List ℕ → Entry
+v6Entry l = cond (eqb (length l) 32) (v6From (readDigits 16 (part l 0 16)) (readDigits 16 (part l 16 16))) Bad
+
+-- `node` goes on with `name` and a name, or with a version and an address
+unfoldable pub nodeEntry : List ℕ → List ℕ → Entry
+nodeEntry kind l =
+    cond (same kind (text "name")) (nameEntry l) (cond (same kind (text "v4")) (v4Entry l) (cond (same kind (text "v6")) (v6Entry l) Bad))
+
+-- an entry of three fields
+unfoldable pub three : List ℕ → List ℕ → List ℕ → Entry
+three word a b =
+    cond (same word (text "home")) (homeEntry (plmnOf a b))
+    (cond (same word (text "bar")) (barEntry (plmnOf a b)) (cond (same word (text "node")) (nodeEntry a b) Bad))
+
+-- an entry of four fields
+unfoldable pub four : List ℕ → List ℕ → List ℕ → List ℕ → Entry
+four word a b c = cond (same word (text "plmn")) (plmnEntry (plmnOf a b) (priorityOf c)) Bad
+
+-- an entry by its fields; a line with nothing in it is the end
+unfoldable pub entryOf : List (List ℕ) → Entry
+entryOf [] = Bad
+entryOf ([] ∷ []) = End
+entryOf ((c ∷ l) ∷ []) = Bad
+entryOf (a ∷ b ∷ []) = Bad
+entryOf (a ∷ b ∷ c ∷ []) = three a b c
+entryOf (a ∷ b ∷ c ∷ d ∷ []) = four a b c d
+entryOf (a ∷ b ∷ c ∷ d ∷ e ∷ fs) = Bad
+
+-- the fields of a line are parted by one tab
+unfoldable pub lineEntry : List ℕ → Entry
+lineEntry l = entryOf (pieces 9 l)

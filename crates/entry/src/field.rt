@@ -1,0 +1,116 @@
+// Fields of an entry.
+use network::Plmn;
+use text::Reading;
+use text::decimal_width;
+use text::read_digits;
+ghost use mathlib.Core.Path.{_≡_};
+ghost use Rattle.entry.specs.Field.{isName, isNameCharacter, plmnOf, priorityOf, plmnRead};
+ghost use Rattle.text.specs.Text.{numberRead};
+
+// A `plmn` entry: a PLMN and its priority, 0 the best.
+pub struct Preferred {
+    pub plmn: Plmn,
+    pub priority: u64,
+}
+
+// What the fields of a PLMN say.
+pub enum PlmnField {
+    Is(Plmn),
+    Not,
+}
+
+// The PLMN that an MCC and an MNC say.
+pub fn plmn(mcc: &[u8], mnc: &[u8]) -> PlmnField
+    ensures { λ r. ⌜ plmnRead r ≡ plmnOf (now (mcc .entry)) (now (mnc .entry)) ⌝ }
+{
+    if mcc.len() != 3 {
+        return PlmnField::Not;
+    }
+    if mnc.len() < 2 {
+        return PlmnField::Not;
+    }
+    if 3 < mnc.len() {
+        return PlmnField::Not;
+    }
+    let Reading::Number(country) = read_digits(mcc, 0, mcc.len(), 10) else {
+        return PlmnField::Not;
+    };
+    let Reading::Number(code) = read_digits(mnc, 0, mnc.len(), 10) else {
+        return PlmnField::Not;
+    };
+    PlmnField::Is(Plmn {
+        mcc: country,
+        mnc: code,
+    })
+}
+
+// The priority that a field says.
+pub fn priority(field: &[u8]) -> Reading
+    ensures { λ r. ⌜ numberRead r ≡ priorityOf (now (field .entry)) ⌝ }
+{
+    let n = field.len();
+    if 3 < n {
+        return Reading::NotDigits;
+    }
+    let Reading::Number(x) = read_digits(field, 0, n, 10) else {
+        return Reading::NotDigits;
+    };
+    if 255 < x {
+        return Reading::NotDigits;
+    }
+    if decimal_width(x) != n {
+        return Reading::NotDigits;
+    }
+    Reading::Number(x)
+}
+
+// Whether an octet may stand in a node name.
+fn is_name_character(c: u8) -> bool
+    ensures { λ r. ⌜ r ≡ isNameCharacter c ⌝ }
+{
+    if c == 45 {
+        return true;
+    }
+    if c == 46 {
+        return true;
+    }
+    if c < 48 {
+        return false;
+    }
+    if c <= 57 {
+        return true;
+    }
+    if c < 65 {
+        return false;
+    }
+    if c <= 90 {
+        return true;
+    }
+    if c < 97 {
+        return false;
+    }
+    if c <= 122 {
+        return true;
+    }
+    false
+}
+
+// Whether a field is a node name.
+pub fn is_name(field: &[u8]) -> bool
+    ensures { λ r. ⌜ r ≡ isName (now (field .entry)) ⌝ }
+{
+    if field.len() < 1 {
+        return false;
+    }
+    if 253 < field.len() {
+        return false;
+    }
+    let mut i = 0;
+    while i < field.len() {
+        if !is_name_character(field[i]) {
+            return false;
+        }
+        i += 1;
+    }
+    true
+}
