@@ -124,7 +124,7 @@ module _ (l : List ℕ) where
   v6-is e = rw (eq-eqb (length l) 32 e)
 
 -- a text has a first piece
-some-piece : (x : ℕ) (l : List ℕ) → (p : List ℕ) × (ps : List (List ℕ)) × (pieces x l ≡ p ∷ ps)
+pub some-piece : (x : ℕ) (l : List ℕ) → (p : List ℕ) × (ps : List (List ℕ)) × (pieces x l ≡ p ∷ ps)
 unfolding pieces before
 some-piece x [] = ([], [], refl)
 some-piece x (c ∷ l) = go (eqb c x) (pieces x l)

@@ -1,0 +1,5 @@
+-- The laws that the proofs of this crate share.
+pub mod Collects
+pub mod Runs
+pub mod Texts
+pub mod Wholes

@@ -1,0 +1,76 @@
+-- The entries of a text from a place on, by where the next newline stands.
+use Prim.Native.Nat.{ℕ, _+_, _-_, _≤_, _<_}
+use mathlib.Core.List.{List, [], _∷_}
+use mathlib.Core.Bool.{Bool, true, false}
+use mathlib.Core.Path.{_≡_, refl, ap}
+use lib.Dec.{ltb}
+use borrow.Author.Tests.{ltb-true, ltb-false}
+use native.Mathlib.Omega.{arith}
+use lib.ListN.{length, drop, drop-of-length-le}
+use Rattle.octets.specs.Part.{part, holds}
+use Rattle.octets.specs.Search.{least}
+use Rattle.octets.proofs.Parts.{length-part}
+use Rattle.octets.proofs.Search.{least-bound}
+use Rattle.entry.specs.Entry.{lineEntry}
+use Rattle.entry.specs.Pieces.{pieces}
+use Rattle.entry.specs.declared.Entry.{Entry}
+use Rattle.entry.specs.declared.Entry.the-variants.{End, Bad}
+use Rattle.entry.proofs.Entries.{some-piece}
+use Rattle.entry.proofs.Splits.{split, whole}
+use Rattle.config.specs.Lines.{lastEntry, entries, entriesFrom, newline}
+use Rattle.config.specs.Settings.{isEnd, ends}
+
+module _ (l : List ℕ) (at : ℕ) where
+  -- nothing is left at the end
+  pub at-end : at ≡ length l → (entriesFrom l at ≡ End ∷ []) × (at ≡ length l)
+  unfolding entriesFrom entries lastEntry pieces
+  at-end e =
+      let all : length l ≤ at = omega arith in
+      (ap (λ (m : List ℕ). entries (pieces 10 m)) (drop-of-length-le l all), e)
+
+  module _ (inside : at ≤ length l) where
+    -- no newline ends what is left
+    pub unended : (at ≡ length l → ⊥) → (r : ℕ) → r ≡ at + least (length l - at) (holds l at 10) → r ≡ length l → entriesFrom l at ≡ Bad ∷ []
+    unfolding entriesFrom entries lastEntry
+    unended h r first e = go (part l at (r - at)) (length-part l at (r - at) (omega arith)) (whole l 10 at r inside first e)
+      where
+        go : (m : List ℕ) → length m ≡ r - at → pieces 10 (drop at l) ≡ m ∷ [] → entries (pieces 10 (drop at l)) ≡ Bad ∷ []
+        go [] q p = absurd (h (omega arith))
+        go (x ∷ m) q p = rw p
+
+    -- a line ended by a newline is an entry, and the next line begins behind it
+    pub ended : (r : ℕ) → at ≤ r → r ≤ length l → r ≡ at + least (length l - at) (holds l at 10) → (r ≡ length l → ⊥) → (e : Entry) → e ≡ lineEntry (part l at (r - at))
+        → (entriesFrom l at ≡ e ∷ entriesFrom l (r + 1)) × (at < r + 1) × (r + 1 ≤ length l) × (r + 1 ≡ newline l at + 1)
+    unfolding entriesFrom entries newline
+    ended r low high first h e q =
+        let s = some-piece 10 (drop (r + 1) l) in
+        (rw (split l 10 at r inside first h, s .2, q), omega arith, omega arith, ap (λ (k : ℕ). k + 1) first)
+
+-- a place has entries from it on
+some-entry : (l : List ℕ) (at : ℕ) → (e : Entry) × (es : List Entry) × (entriesFrom l at ≡ e ∷ es)
+unfolding entriesFrom entries
+some-entry l at =
+    let s = some-piece 10 (drop at l) in
+    go (s .0) (s .1) (s .2)
+  where
+    go : (p : List ℕ) (ps : List (List ℕ)) → pieces 10 (drop at l) ≡ p ∷ ps → (e : Entry) × (es : List Entry) × (entries (pieces 10 (drop at l)) ≡ e ∷ es)
+    go p [] h = (lastEntry p, [], rw h)
+    go p (q ∷ qs) h = (lineEntry p, entries (q ∷ qs), rw h)
+
+-- before the end of a text its end is not reached
+pub not-end : (l : List ℕ) (at : ℕ) → at ≤ length l → (at ≡ length l → ⊥) → isEnd (entriesFrom l at) ≡ false
+unfolding isEnd ends newline
+not-end l at inside h = go (ltb r (length l)) refl
+  where
+    r : ℕ
+    r = at + least (length l - at) (holds l at 10)
+
+    go : (t : Bool) → ltb r (length l) ≡ t → isEnd (entriesFrom l at) ≡ false
+    go true e =
+        let bound = least-bound (length l - at) (holds l at 10) in
+        let line = ended l at inside r (omega arith) (omega arith) refl (λ q. omega (arith, ltb-true r (length l) e)) _ refl in
+        let s = some-entry l (r + 1) in
+        rw (line .0, s .2)
+    go false e =
+        let bound = least-bound (length l - at) (holds l at 10) in
+        rw (unended l at inside h r refl (omega (arith, ltb-false r (length l) e)))

@@ -1,0 +1,93 @@
+-- A configuration text as a whole, from its parts.
+use Prim.Native.Nat.{ℕ, _+_, _≤_}
+use mathlib.Core.Bool.{true, false}
+use mathlib.Core.List.{List, [], _∷_, map}
+use mathlib.Core.Option.{Option, none, some}
+use mathlib.Core.Path.{_≡_, sym, ap, _∙_}
+use native.Mathlib.Omega.{arith}
+use lib.ListN.{length, take}
+use Rattle.network.specs.declared.Plmn.{Plmn}
+use Rattle.entry.specs.declared.Entry.{Entry}
+use Rattle.config.specs.Lines.{entriesFrom, newline}
+use Rattle.config.specs.Settings.{plmnIn, accepted, asHome, asListed, asNode, run, rest, left, isEnd, ends, nodeOr, firstNode, afterNode, skip, settle, withHome, fromHome, namePlace, configOf, RunIs}
+use Rattle.config.specs.declared.Node.{Node}
+use Rattle.config.specs.declared.Node.the-variants as Node
+use Rattle.config.specs.declared.list.Run.{Run}
+use Rattle.config.proofs.Texts.{at-end, not-end}
+
+-- `node` at a place
+module _ (l : List ℕ) (at : ℕ) where
+  pub node-said : (e : Entry) (next : ℕ) → entriesFrom l at ≡ e ∷ entriesFrom l next → nodeOr (asNode (at + 10) e) ≡ firstNode (at + 10) (entriesFrom l at)
+  unfolding firstNode
+  node-said e next h = rw h
+
+  pub node-skipped : (e : Entry) (next : ℕ) → entriesFrom l at ≡ e ∷ entriesFrom l next
+      → afterNode (at + 10) (entriesFrom l at) ≡ entriesFrom l (skip (asNode (at + 10) e) at next)
+  unfolding afterNode skip left
+  node-skipped e next h = go (asNode (at + 10) e) (rw h)
+    where
+      go : (o : Option Node) → afterNode (at + 10) (entriesFrom l at) ≡ left o (e ∷ entriesFrom l next) (entriesFrom l next)
+          → afterNode (at + 10) (entriesFrom l at) ≡ entriesFrom l (skip o at next)
+      go none q = q ∙ sym h
+      go (some n) q = q
+
+  pub skip-within : (o : Option Node) (next : ℕ) → at ≤ length l → next ≤ length l → skip o at next ≤ length l
+  unfolding skip
+  skip-within none next h k = h
+  skip-within (some n) next h k = k
+
+  -- the last line is no `node`
+  pub no-node : (e : Entry) → asNode (at + 10) e ≡ none → entriesFrom l at ≡ e ∷ []
+      → (Node.None ≡ firstNode (at + 10) (entriesFrom l at)) × (afterNode (at + 10) (entriesFrom l at) ≡ entriesFrom l at)
+  unfolding firstNode afterNode nodeOr left
+  no-node e k h = (sym (rw (h, k)), rw (h, k))
+
+-- what follows `home`
+module _ (l : List ℕ) (h : Plmn) (n : Node) (es : List Entry) (s : ℕ) (from : es ≡ entriesFrom l s) (P : Run) (p : RunIs false l s P) where
+  bad-plmns′ : accepted (map plmnIn (run (asListed false) es)) ≡ P .ok
+  bad-plmns′ = ap (λ (x : List Entry). accepted (map plmnIn (run (asListed false) x))) from ∙ sym (p .ok-is)
+
+  pub bad-plmns : P .ok ≡ false → none ≡ settle h n es
+  unfolding settle
+  bad-plmns e = sym (rw (bad-plmns′ ∙ e))
+
+  module _ (ok : P .ok ≡ true) (Q : Run) (q : RunIs true l (P .next) Q) where
+    behind : rest (asListed false) es ≡ entriesFrom l (P .next)
+    behind = ap (rest (asListed false)) from ∙ p .rest-is ok
+
+    bars-are : accepted (map plmnIn (run (asListed true) (rest (asListed false) es))) ≡ Q .ok
+    bars-are = ap (λ (x : List Entry). accepted (map plmnIn (run (asListed true) x))) behind ∙ sym (q .ok-is)
+
+    pub bad-bars : Q .ok ≡ false → none ≡ settle h n es
+    unfolding settle
+    bad-bars e = sym (rw (bad-plmns′ ∙ ok, bars-are ∙ e))
+
+    module _ (ok₂ : Q .ok ≡ true) where
+      last : rest (asListed true) (rest (asListed false) es) ≡ entriesFrom l (Q .next)
+      last = ap (rest (asListed true)) behind ∙ q .rest-is ok₂
+
+      pub unfinished : (Q .next ≡ length l → ⊥) → none ≡ settle h n es
+      unfolding settle
+      unfinished e = sym (rw (bad-plmns′ ∙ ok, bars-are ∙ ok₂, ap isEnd last ∙ not-end l (Q .next) (q .next-within) e))
+
+      pub finished : Q .next ≡ length l
+          → some (record { home = h; node = n; plmns = take (P .count) (P .list); bars = map plmnIn (take (Q .count) (Q .list)) }) ≡ settle h n es
+      unfolding settle isEnd ends
+      finished e =
+          let done : isEnd (rest (asListed true) (rest (asListed false) es)) ≡ true = ap isEnd (last ∙ at-end l (Q .next) e .0) in
+          let plmns-are : run (asListed false) es ≡ take (P .count) (P .list) = ap (run (asListed false)) from ∙ p .list-is ok in
+          let bars-listed : run (asListed true) (rest (asListed false) es) ≡ take (Q .count) (Q .list) = ap (run (asListed true)) behind ∙ q .list-is ok₂ in
+          sym (rw (bad-plmns′ ∙ ok, bars-are ∙ ok₂, done, plmns-are, bars-listed))
+
+-- the whole text
+module _ (l : List ℕ) where
+  pub with-home : (e : Entry) (next : ℕ) → entriesFrom l 0 ≡ e ∷ entriesFrom l next → next ≡ newline l 0 + 1
+      → withHome (asHome e) (next + 10) (entriesFrom l next) ≡ configOf l
+  unfolding configOf fromHome namePlace
+  with-home e next h k =
+      let place : next + 10 ≡ newline l 0 + 11 = omega arith in
+      sym (rw h (ap (λ (m : ℕ). withHome (asHome e) m (entriesFrom l next)) (sym place)))
+
+  pub no-home : (e : Entry) → asHome e ≡ none → entriesFrom l 0 ≡ e ∷ [] → none ≡ configOf l
+  unfolding configOf fromHome withHome
+  no-home e k h = sym (rw (h, k))

@@ -1,0 +1,157 @@
+-- `config::list::collect` meets its contract. The loop's invariant: the entries collected and those that are left make the whole, and no PLMN
+-- that is collected stands twice.
+use Prim.Native.Nat.{ℕ, _+_, _-_, _≤_, _<_}
+use mathlib.Core.Bool.{false≢true}
+use mathlib.Core.List.{List, [], _∷_, _++_, map}
+use mathlib.Core.Path.{_≡_, refl, sym, ap, _∙_, subst}
+use native.Mathlib.Numerals.{add-one}
+use native.Mathlib.Omega.{arith}
+use lib.ListN.{length, take, set, length-set}
+use lib.Seq.{length-take-le, take-suc-set}
+use denote.Ref.{now}
+use borrow.Author.Needs.{needs}
+use Rattle.entry.specs.declared.field.Preferred.{Preferred}
+use Rattle.config.specs.Lines.{entriesFrom}
+use Rattle.config.specs.Settings.{plmnIn, newAfter, asListed, run, rest, ListedIs}
+use Rattle.config.specs.declared.list.Listed.{Listed}
+use Rattle.config.proofs.Collects.{all-collected, all-accepted, too-many, repeated, one-more, still-new}
+use Rattle.config.proofs.list.collect.Statement.{statement}
+use Rattle.config.proofs.list.collect.Tie as tie
+
+abbrev Inv-loop : tie.InvT-loop
+Inv-loop text start bars list₀ count₀ at₀ list count at =
+    (at ≤ length text) × (count ≤ 16) × (length list ≡ 16)
+    × (run (asListed bars) (entriesFrom text start) ≡ take count list ++ run (asListed bars) (entriesFrom text at))
+    × (rest (asListed bars) (entriesFrom text start) ≡ rest (asListed bars) (entriesFrom text at))
+    × (newAfter [] (map plmnIn (run (asListed bars) (entriesFrom text start))) ≡ newAfter (map plmnIn (take count list)) (map plmnIn (run (asListed bars) (entriesFrom text at))))
+
+abbrev μ-loop : tie.MeasureT-loop
+μ-loop text start bars list₀ count₀ at₀ list count at = length text - at
+
+sized : (l : List Preferred) (n : ℕ) → n ≤ 16 → length l ≡ 16 → length (take n l) ≡ n
+sized l n h e = length-take-le n l (omega arith)
+
+next : (n : ℕ) → n ≤ 16 → (n ≡ 16 → ⊥) → n < 16
+next n h k = omega arith
+
+-- an entry stored behind those collected is collected
+snoc : (l : List Preferred) (n : ℕ) (p : Preferred) → length l ≡ 16 → n < 16 → take (n + 1) (set l n p) ≡ take n l ++ p ∷ []
+snoc l n p e h = ap (λ (k : ℕ). take k (set l n p)) (add-one n) ∙ take-suc-set l n p (omega arith)
+
+falls : (at next n : ℕ) → at < next → next ≤ n → n - next < n - at
+falls at next n h k = omega arith
+
+loop-holds : tie.Need-loop-holds Inv-loop μ-loop
+loop-holds c = (c .before .pre, search needs, search needs, refl, refl, refl)
+
+listed-at-requires : tie.Need-listed-at-requires Inv-loop μ-loop
+listed-at-requires c κs = c .loop .inv .0
+
+enum-known-p : tie.Need-enum-known-p Inv-loop μ-loop
+enum-known-p c = search needs
+
+enum-told : tie.Need-enum-told Inv-loop μ-loop
+enum-told c = search needs
+
+returns : tie.Need-returns Inv-loop μ-loop
+returns c =
+    let a = c .before .before .before .before .before .args in
+    let at-loop = c .before .before .before .loop in
+    let none = subst (λ (r : Listed). ListedIs (a .bars) (now (a .text)) (at-loop .at) r) (c .enum-told .given .1) (c .before .before .listed-at .ensures) in
+    let d = take (at-loop .count) (at-loop .list) in
+    let few : length d ≤ 16 = subst (λ (k : ℕ). k ≤ 16) (sym (sized (at-loop .list) (at-loop .count) (at-loop .inv .1) (at-loop .inv .2))) (at-loop .inv .1) in
+    record {
+      ok-is = all-accepted _ d _ (at-loop .inv .3) (at-loop .inv .5) (none .0) few;
+      list-is = λ _. all-collected _ d _ (at-loop .inv .3) (at-loop .inv .5) (none .0);
+      rest-is = λ _. at-loop .inv .4 ∙ none .1;
+      count-within = at-loop .inv .1;
+      next-within = at-loop .inv .0;
+    }
+
+returns-2 : tie.Need-returns-2 Inv-loop μ-loop
+returns-2 c =
+    let a = c .before .before .before .before .before .before .before .args in
+    let at-loop = c .before .before .before .before .before .loop in
+    let one = subst (λ (r : Listed). ListedIs (a .bars) (now (a .text)) (at-loop .at) r) (c .before .before .p .given .1) (c .before .before .before .before .listed-at .ensures) in
+    let d = take (at-loop .count) (at-loop .list) in
+    record {
+      ok-is = too-many _ d _ (at-loop .inv .3) (at-loop .inv .5) _ _ (one .0) (sized (at-loop .list) (at-loop .count) (at-loop .inv .1) (at-loop .inv .2) ∙ c .if1 .taken);
+      list-is = λ e. absurd (false≢true e);
+      rest-is = λ e. absurd (false≢true e);
+      count-within = at-loop .inv .1;
+      next-within = at-loop .inv .0;
+    }
+
+has-preferred-requires : tie.Need-has-preferred-requires Inv-loop μ-loop
+has-preferred-requires c κs = search needs
+
+returns-3 : tie.Need-returns-3 Inv-loop μ-loop
+unfolding plmnIn
+returns-3 c =
+    let a = c .before .before .before .before .before .before .before .before .before .args in
+    let at-loop = c .before .before .before .before .before .before .before .loop in
+    let one = subst (λ (r : Listed). ListedIs (a .bars) (now (a .text)) (at-loop .at) r) (c .before .before .before .before .p .given .1) (c .before .before .before .before .before .before .listed-at .ensures) in
+    let d = take (at-loop .count) (at-loop .list) in
+    record {
+      ok-is = repeated _ d _ (at-loop .inv .3) (at-loop .inv .5) _ _ (one .0) (sym (c .before .has-preferred .ensures) ∙ c .if2 .taken);
+      list-is = λ e. absurd (false≢true e);
+      rest-is = λ e. absurd (false≢true e);
+      count-within = at-loop .inv .1;
+      next-within = at-loop .inv .0;
+    }
+
+mul-list : tie.Need-mul-list Inv-loop μ-loop
+mul-list c = search needs
+
+array-set-from-list : tie.Need-array-set-from-list Inv-loop μ-loop
+array-set-from-list c = search needs
+
+add-count : tie.Need-add-count Inv-loop μ-loop
+add-count c = search needs
+
+loop-less : tie.Need-loop-less Inv-loop μ-loop
+loop-less c =
+    let a = c .before .before .before .before .before .before .before .before .before .args in
+    let at-loop = c .before .before .before .before .before .before .before .loop in
+    let one = subst (λ (r : Listed). ListedIs (a .bars) (now (a .text)) (at-loop .at) r) (c .before .before .before .before .p .given .1) (c .before .before .before .before .before .before .listed-at .ensures) in
+    falls (at-loop .at) _ (length (now (a .text))) (one .2) (one .3)
+
+loop-again : tie.Need-loop-again Inv-loop μ-loop
+unfolding plmnIn
+loop-again c =
+    let a = c .before .before .before .before .before .before .before .before .before .args in
+    let at-loop = c .before .before .before .before .before .before .before .loop in
+    let one = subst (λ (r : Listed). ListedIs (a .bars) (now (a .text)) (at-loop .at) r) (c .before .before .before .before .p .given .1) (c .before .before .before .before .before .before .listed-at .ensures) in
+    let room : at-loop .count < 16 = next (at-loop .count) (at-loop .inv .1) (c .before .before .if1 .left) in
+    let d = take (at-loop .count) (at-loop .list) in
+    let p = c .before .before .before .before .p .given .0 .0 in
+    let Y = run (asListed (a .bars)) (entriesFrom (now (a .text)) (c .before .before .before .before .p .given .0 .1 .0)) in
+    let longer = snoc (at-loop .list) (at-loop .count) p (at-loop .inv .2) room in (
+      one .3,
+      omega arith,
+      length-set (at-loop .list) (at-loop .count) p ∙ at-loop .inv .2,
+      one-more _ d _ (at-loop .inv .3) (at-loop .inv .5) p Y (one .0) ∙ ap (λ (l : List Preferred). l ++ Y) (sym longer),
+      at-loop .inv .4 ∙ one .1,
+      still-new _ d _ (at-loop .inv .3) (at-loop .inv .5) p Y (one .0) (sym (c .before .has-preferred .ensures) ∙ c .if2 .left)
+          ∙ ap (λ (l : List Preferred). newAfter (map plmnIn l) (map plmnIn Y)) (sym longer),
+    )
+
+pub collect-spec : {M : Type 1} → statement M
+collect-spec =
+    tie.close
+    (tie.spec
+    Inv-loop
+    μ-loop
+    loop-holds
+    listed-at-requires
+    enum-known-p
+    enum-told
+    returns
+    returns-2
+    has-preferred-requires
+    returns-3
+    mul-list
+    array-set-from-list
+    add-count
+    loop-less
+    loop-again)

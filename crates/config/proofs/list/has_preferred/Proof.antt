@@ -1,0 +1,92 @@
+-- `config::list::has_preferred` meets its contract. The loop's invariant: the PLMNs that are left decide.
+use Prim.Native.Nat.{ℕ, _+_, _-_, _≤_, _<_}
+use mathlib.Core.Bool.{Bool, true, false, _||_}
+use mathlib.Core.List.{List, map}
+use mathlib.Core.Path.{_≡_, refl, sym, _∙_}
+use native.Mathlib.Numerals.{add-one}
+use lib.ListN.{length, getD, take, drop, drop-of-length-le}
+use lib.Seq.{drop-cons, getD-take, length-take-le}
+use borrow.Author.Needs.{needs}
+use Rattle.network.specs.declared.Plmn.{Plmn}
+use Rattle.entry.specs.declared.field.Preferred.{Preferred}
+use Rattle.config.specs.Settings.{among, plmnIn, samePlmn}
+use Rattle.config.proofs.list.has_preferred.Statement.{statement}
+use Rattle.config.proofs.list.has_preferred.Tie as tie
+
+abbrev Inv-loop : tie.InvT-loop
+Inv-loop n p list i₀ i = (i ≤ n) × (among p (map plmnIn (take n list)) ≡ among p (map plmnIn (drop i (take n list))))
+
+abbrev μ-loop : tie.MeasureT-loop
+μ-loop n p list i₀ i = n - i
+
+-- what stands past the end of a list
+abbrev none : Preferred
+none = record { plmn = record { mcc = 0; mnc = 0 }; priority = 0 }
+
+module _ (l : List Preferred) (n i : ℕ) (p : Plmn) (long : n ≤ length l) where
+  -- the next PLMN decides first
+  next : i < n → (t : Bool) → samePlmn p (getD l i none .plmn) ≡ t
+      → among p (map plmnIn (drop i (take n l))) ≡ t || among p (map plmnIn (drop (i + 1) (take n l)))
+  unfolding among plmnIn
+  next h t e = rw (add-one, drop-cons (take n l) i none (rw (length-take-le n l long) h), getD-take n l i none h, e)
+
+  -- none is left
+  done : n ≤ i → among p (map plmnIn (drop i (take n l))) ≡ false
+  unfolding among
+  done h =
+      let all : length (take n l) ≤ i = rw (length-take-le n l long) h in
+      rw (drop-of-length-le (take n l) all)
+
+loop-holds : tie.Need-loop-holds Inv-loop μ-loop
+loop-holds c = (search needs, refl)
+
+mul-q : tie.Need-mul-q Inv-loop μ-loop
+mul-q c = search needs
+
+array-copy-out-q : tie.Need-array-copy-out-q Inv-loop μ-loop
+array-copy-out-q c = search needs
+
+same-plmn-requires : tie.Need-same-plmn-requires Inv-loop μ-loop
+same-plmn-requires c κs = search needs
+
+returns : tie.Need-returns Inv-loop μ-loop
+returns c =
+    let a = c .before .before .before .before .before .args in
+    let at-loop = c .before .before .before .before .loop in
+    let long : a .n ≤ length (a .t1) = search needs in
+    sym (at-loop .inv .1 ∙ next (a .t1) (a .n) (at-loop .i) (a .p) long (c .before .before .before .loop-test .taken) true (sym (c .before .same-plmn .ensures) ∙ c .if1 .taken))
+
+add-i : tie.Need-add-i Inv-loop μ-loop
+add-i c = search needs
+
+loop-less : tie.Need-loop-less Inv-loop μ-loop
+loop-less c = search needs
+
+loop-again : tie.Need-loop-again Inv-loop μ-loop
+loop-again c =
+    let a = c .before .before .before .before .before .args in
+    let at-loop = c .before .before .before .before .loop in
+    let long : a .n ≤ length (a .t1) = search needs in
+    (search needs, at-loop .inv .1 ∙ next (a .t1) (a .n) (at-loop .i) (a .p) long (c .before .before .before .loop-test .taken) false (sym (c .before .same-plmn .ensures) ∙ c .if1 .left))
+
+returns-2 : tie.Need-returns-2 Inv-loop μ-loop
+returns-2 c =
+    let a = c .before .before .args in
+    let long : a .n ≤ length (a .t1) = search needs in
+    sym (c .before .loop .inv .1 ∙ done (a .t1) (a .n) (c .before .loop .i) (a .p) long (c .loop-test .left))
+
+pub has-preferred-spec : {M : Type 1} → statement M
+has-preferred-spec =
+    tie.close
+    (tie.spec
+    Inv-loop
+    μ-loop
+    loop-holds
+    mul-q
+    array-copy-out-q
+    same-plmn-requires
+    returns
+    add-i
+    loop-less
+    loop-again
+    returns-2)

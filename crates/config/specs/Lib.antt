@@ -1,0 +1,3 @@
+-- What a configuration text says.
+pub mod Lines
+pub mod Settings

@@ -1,0 +1,31 @@
+// The configuration text.
+mod line;
+mod list;
+pub mod parse;
+
+use address::Address;
+use entry::field::Preferred;
+use network::Plmn;
+
+// Where the `node` entry sends a line: a name that stands in the text, an address, or nowhere.
+pub enum Node {
+    None,
+    Name { at: usize, length: usize },
+    Address(Address),
+}
+
+// A configuration: `plmn` entries and barred PLMNs are those below their counts.
+pub struct Config {
+    pub home: Plmn,
+    pub node: Node,
+    pub plmns: [Preferred; 16],
+    pub plmn_count: usize,
+    pub bars: [Preferred; 16],
+    pub bar_count: usize,
+}
+
+// A configuration, where the text is well formed.
+pub struct Parsed {
+    pub ok: bool,
+    pub config: Config,
+}

@@ -1,0 +1,35 @@
+// Lines of the configuration text.
+use entry::Entry;
+use entry::of_line;
+use octets::slice::find;
+use octets::slice::part;
+ghost use Prim.Native.Nat.{_≤_};
+ghost use lib.ListN.{length};
+ghost use Rattle.config.specs.Lines.{LineIs};
+
+// What stands at a place where a line may begin.
+pub(crate) enum Line {
+    // An entry, and where the next line begins.
+    Whole(Entry, usize),
+    // The end of the text.
+    Last,
+    // A line that no newline ends.
+    Broken,
+}
+
+// The line that begins at a place.
+pub(crate) fn line_at(text: &[u8], at: usize) -> Line
+    requires { ⌜ at ≤ length (now text) ⌝ }
+    ensures { λ r. ⌜ LineIs (now (text .entry)) at r ⌝ }
+{
+    let n = text.len();
+    if at == n {
+        return Line::Last;
+    }
+    let end = find(text, at, n, 10);
+    if end == n {
+        return Line::Broken;
+    }
+    let line = part(text, at, end - at);
+    Line::Whole(of_line(line), end + 1)
+}

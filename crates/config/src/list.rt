@@ -1,0 +1,142 @@
+// Lists of PLMNs in the configuration text.
+use crate::line::Line;
+use crate::line::line_at;
+use entry::Entry;
+use entry::field::Preferred;
+use network::Plmn;
+ghost use mathlib.Core.Path.{_≡_};
+ghost use mathlib.Core.List.{map};
+ghost use Prim.Native.Nat.{_≤_};
+ghost use lib.ListN.{length, take};
+ghost use Rattle.config.specs.Settings.{among, asListed, listedOf, ListedIs, RunIs, nextOf, plmnIn, samePlmn};
+
+// Whether two PLMNs are the same numbers.
+pub(crate) fn same_plmn(p: Plmn, q: Plmn) -> bool
+    ensures { λ r. ⌜ r ≡ samePlmn p q ⌝ }
+{
+    if p.mcc != q.mcc {
+        return false;
+    }
+    p.mnc == q.mnc
+}
+
+// What stands at a place where a listed entry may begin.
+pub(crate) enum Listed {
+    // An entry, and where the next line begins.
+    Is(Preferred, usize),
+    // Something else.
+    Not,
+}
+
+// The entry of the kind that is listed: `bar` or `plmn`.
+fn of_kind(e: Entry, bars: bool, next: usize) -> Listed
+    ensures { λ r. ⌜ listedOf r ≡ asListed bars e ⌝ }
+    ensures { λ r. ⌜ nextOf r next ⌝ }
+{
+    match e {
+        Entry::Preference(p) => {
+            if bars {
+                Listed::Not
+            } else {
+                Listed::Is(p, next)
+            }
+        }
+        Entry::Bar(p) => {
+            if bars {
+                Listed::Is(
+                    Preferred {
+                        plmn: p,
+                        priority: 0,
+                    },
+                    next,
+                )
+            } else {
+                Listed::Not
+            }
+        }
+        Entry::Home(_) => Listed::Not,
+        Entry::Name(_) => Listed::Not,
+        Entry::Node(_) => Listed::Not,
+        Entry::End => Listed::Not,
+        Entry::Bad => Listed::Not,
+    }
+}
+
+// Whether a PLMN stands among the first n preferred ones.
+fn has_preferred(list: [Preferred; 16], n: usize, p: Plmn) -> bool
+    requires { ⌜ n ≤ 16 ⌝ }
+    ensures { λ r. ⌜ r ≡ among p (map plmnIn (take n list)) ⌝ }
+{
+    let mut i = 0;
+    while i < n {
+        let q = list[i];
+        if same_plmn(p, q.plmn) {
+            return true;
+        }
+        i += 1;
+    }
+    false
+}
+
+// The listed entry at a place.
+fn listed_at(text: &[u8], at: usize, bars: bool) -> Listed
+    requires { ⌜ at ≤ length (now text) ⌝ }
+    ensures { λ r. ⌜ ListedIs bars (now (text .entry)) at r ⌝ }
+{
+    match line_at(text, at) {
+        Line::Whole(e, next) => of_kind(e, bars, next),
+        Line::Last => Listed::Not,
+        Line::Broken => Listed::Not,
+    }
+}
+
+// The entries of one kind from a place on: those below the count, and where the next line begins.
+pub(crate) struct Run {
+    pub ok: bool,
+    pub list: [Preferred; 16],
+    pub count: usize,
+    pub next: usize,
+}
+
+// Collects the entries of one kind that follow one another, where there are at most 16 and no PLMN stands twice.
+pub(crate) fn collect(text: &[u8], start: usize, bars: bool) -> Run
+    requires { ⌜ start ≤ length (now text) ⌝ }
+    ensures { λ r. ⌜ RunIs bars (now (text .entry)) start r ⌝ }
+{
+    let none = Preferred {
+        plmn: Plmn { mcc: 0, mnc: 0 },
+        priority: 0,
+    };
+    let mut list = [none; 16];
+    let mut count = 0;
+    let mut at = start;
+    loop {
+        let Listed::Is(p, next) = listed_at(text, at, bars) else {
+            return Run {
+                ok: true,
+                list,
+                count,
+                next: at,
+            };
+        };
+        if count == 16 {
+            return Run {
+                ok: false,
+                list,
+                count,
+                next: at,
+            };
+        }
+        if has_preferred(list, count, p.plmn) {
+            return Run {
+                ok: false,
+                list,
+                count,
+                next: at,
+            };
+        }
+        list[count] = p;
+        count += 1;
+        at = next;
+    }
+}
