@@ -1,6 +1,6 @@
 -- Entries collected one after another: how many there are and whether one stands twice.
-use Prim.Native.Nat.{suc, _+_, _≤_, _<_}
-use mathlib.Core.Bool.{true, false}
+use Prim.Native.Nat.{ℕ, suc, _+_, _≤_, _<_}
+use mathlib.Core.Bool.{Bool, true, false, false≢true}
 use mathlib.Core.List.{List, [], _∷_, _++_, map, map-append, append-assoc, append-nil}
 use mathlib.Core.Path.{_≡_, sym, ap, _∙_}
 use native.Mathlib.Omega.{arith}
@@ -9,7 +9,25 @@ use lib.ListN.{length, length-append, length-map}
 use borrow.Author.Tests.{le-leb, lt-leb}
 use Rattle.octets.proofs.Search.{and-false}
 use Rattle.entry.specs.declared.field.Preferred.{Preferred}
-use Rattle.config.specs.Settings.{plmnIn, among, newAfter, accepted}
+use Rattle.network.specs.Plmn.{among}
+use Rattle.config.specs.Branch.{RunIs}
+use Rattle.config.specs.Lines.{entriesFrom}
+use Rattle.config.specs.Settings.{plmnIn, newAfter, accepted, asListed, run}
+use Rattle.config.specs.declared.list.Run.{Run}
+
+-- entries that are not accepted
+pub not-accepted : (bars : Bool) (l : List ℕ) (at : ℕ) (r : Run) → (r .ok ≡ false) × (r .count ≡ 0) × (r .next ≡ 0)
+    → false ≡ accepted (map plmnIn (run (asListed bars) (entriesFrom l at))) → RunIs bars l at r
+not-accepted bars l at r h e₀ =
+    let none : r .count ≡ 0 = h .1 in
+    let start : r .next ≡ 0 = h .2 in
+    record {
+      ok-is = h .0 ∙ e₀;
+      list-is = λ e. absurd (false≢true (sym (h .0) ∙ e));
+      rest-is = λ e. absurd (false≢true (sym (h .0) ∙ e));
+      count-within = omega arith;
+      next-within = omega arith;
+    }
 
 -- S is what is collected, d, and what is left, X
 module _ (S d X : List Preferred) (split : S ≡ d ++ X) (new : newAfter [] (map plmnIn S) ≡ newAfter (map plmnIn d) (map plmnIn X)) where

@@ -9,7 +9,8 @@ use Rattle.entry.specs.declared.Entry.{Entry}
 use Rattle.entry.specs.declared.Entry.the-variants.{End, Bad}
 use Rattle.entry.specs.declared.field.Preferred.{Preferred}
 use Rattle.config.specs.Lines.{entriesFrom}
-use Rattle.config.specs.Settings.{asListed, listedOf, nextOf, ListedIs, run, rest, taken, left}
+use Rattle.config.specs.Branch.{listedOf, nextOf, ListedIs}
+use Rattle.config.specs.Settings.{asListed, run, rest, taken, left}
 use Rattle.config.specs.declared.list.Listed.{Listed}
 use Rattle.config.specs.declared.list.Listed.the-variants.{Is, Not}
 

@@ -2,7 +2,7 @@
 use Prim.Native.Nat.{ℕ, _+_, _-_, _≤_, _<_}
 use mathlib.Core.List.{List, [], _∷_}
 use mathlib.Core.Bool.{Bool, true, false}
-use mathlib.Core.Path.{_≡_, refl, ap}
+use mathlib.Core.Path.{_≡_, refl, sym, ap, subst}
 use lib.Dec.{ltb}
 use borrow.Author.Tests.{ltb-true, ltb-false}
 use native.Mathlib.Omega.{arith}
@@ -14,9 +14,11 @@ use Rattle.octets.proofs.Search.{least-bound}
 use Rattle.entry.specs.Entry.{lineEntry}
 use Rattle.entry.specs.Pieces.{pieces}
 use Rattle.entry.specs.declared.Entry.{Entry}
-use Rattle.entry.specs.declared.Entry.the-variants.{End, Bad}
+use Rattle.entry.specs.declared.Entry.the-variants.{Home, Name, Node, Preference, Bar, End, Bad}
 use Rattle.entry.proofs.Entries.{some-piece}
+use Rattle.entry.proofs.Names.{NameLine, name-line-size}
 use Rattle.entry.proofs.Splits.{split, whole}
+use Rattle.config.specs.Branch.{NameEnds}
 use Rattle.config.specs.Lines.{lastEntry, entries, entriesFrom, newline}
 use Rattle.config.specs.Settings.{isEnd, ends}
 
@@ -27,6 +29,16 @@ module _ (l : List ℕ) (at : ℕ) where
   at-end e =
       let all : length l ≤ at = omega arith in
       (ap (λ (m : List ℕ). entries (pieces 10 m)) (drop-of-length-le l all), e)
+
+  -- a name ends where its line of m octets ends
+  name-ends : (r m : ℕ) → at + m ≡ r → (e : Entry) → NameLine e m → NameEnds at e (r + 1)
+  name-ends r m h (Home p) k = tt
+  name-ends r m h (Name n) k = omega arith
+  name-ends r m h (Node a) k = tt
+  name-ends r m h (Preference p) k = tt
+  name-ends r m h (Bar p) k = tt
+  name-ends r m h End k = tt
+  name-ends r m h Bad k = tt
 
   module _ (inside : at ≤ length l) where
     -- no newline ends what is left
@@ -40,11 +52,12 @@ module _ (l : List ℕ) (at : ℕ) where
 
     -- a line ended by a newline is an entry, and the next line begins behind it
     pub ended : (r : ℕ) → at ≤ r → r ≤ length l → r ≡ at + least (length l - at) (holds l at 10) → (r ≡ length l → ⊥) → (e : Entry) → e ≡ lineEntry (part l at (r - at))
-        → (entriesFrom l at ≡ e ∷ entriesFrom l (r + 1)) × (at < r + 1) × (r + 1 ≤ length l) × (r + 1 ≡ newline l at + 1)
+        → (entriesFrom l at ≡ e ∷ entriesFrom l (r + 1)) × (at < r + 1) × (r + 1 ≤ length l) × (r + 1 ≡ newline l at + 1) × NameEnds at e (r + 1)
     unfolding entriesFrom entries newline
     ended r low high first h e q =
         let s = some-piece 10 (drop (r + 1) l) in
-        (rw (split l 10 at r inside first h, s .2, q), omega arith, omega arith, ap (λ (k : ℕ). k + 1) first)
+        let name = name-ends r (r - at) (omega arith) (lineEntry (part l at (r - at))) (subst (λ (m : ℕ). NameLine (lineEntry (part l at (r - at))) m) (length-part l at (r - at) (omega arith)) (name-line-size (part l at (r - at)))) in
+        (rw (split l 10 at r inside first h, s .2, q), omega arith, omega arith, ap (λ (k : ℕ). k + 1) first, subst (λ (x : Entry). NameEnds at x (r + 1)) (sym q) name)
 
 -- a place has entries from it on
 some-entry : (l : List ℕ) (at : ℕ) → (e : Entry) × (es : List Entry) × (entriesFrom l at ≡ e ∷ es)

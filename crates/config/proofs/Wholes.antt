@@ -8,8 +8,11 @@ use native.Mathlib.Omega.{arith}
 use lib.ListN.{length, take}
 use Rattle.network.specs.declared.Plmn.{Plmn}
 use Rattle.entry.specs.declared.Entry.{Entry}
+use Rattle.entry.specs.declared.Entry.the-variants.{Home, Name, Preference, Bar, End, Bad}
+use Rattle.entry.specs.declared.Entry.the-variants as Entry
 use Rattle.config.specs.Lines.{entriesFrom, newline}
-use Rattle.config.specs.Settings.{plmnIn, accepted, asHome, asListed, asNode, run, rest, left, isEnd, ends, nodeOr, firstNode, afterNode, skip, settle, withHome, fromHome, namePlace, configOf, RunIs}
+use Rattle.config.specs.Branch.{NameEnds, skip, RunIs}
+use Rattle.config.specs.Settings.{plmnIn, accepted, asHome, asListed, asNode, run, rest, left, isEnd, ends, nodeOr, firstNode, afterNode, settle, withHome, fromHome, namePlace, configOf, NodeWithin}
 use Rattle.config.specs.declared.Node.{Node}
 use Rattle.config.specs.declared.Node.the-variants as Node
 use Rattle.config.specs.declared.list.Run.{Run}
@@ -35,6 +38,17 @@ module _ (l : List ℕ) (at : ℕ) where
   unfolding skip
   skip-within none next h k = h
   skip-within (some n) next h k = k
+
+  -- a node name lies in the text
+  pub node-within : (e : Entry) (next : ℕ) → next ≤ length l → NameEnds at e next → NodeWithin l (nodeOr (asNode (at + 10) e))
+  unfolding nodeOr asNode
+  node-within (Home p) next h k = tt
+  node-within (Name n) next h k = omega arith
+  node-within (Entry.Node a) next h k = tt
+  node-within (Preference p) next h k = tt
+  node-within (Bar p) next h k = tt
+  node-within End next h k = tt
+  node-within Bad next h k = tt
 
   -- the last line is no `node`
   pub no-node : (e : Entry) → asNode (at + 10) e ≡ none → entriesFrom l at ≡ e ∷ []

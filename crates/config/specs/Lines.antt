@@ -1,7 +1,6 @@
 -- The entries of a configuration text, one a line.
-use Prim.Native.Nat.{ℕ, _+_, _-_, _≤_, _<_}
+use Prim.Native.Nat.{ℕ, _+_, _-_}
 use mathlib.Core.List.{List, [], _∷_}
-use mathlib.Core.Path.{_≡_}
 use lib.ListN.{length, drop}
 use Rattle.octets.specs.Part.{holds}
 use Rattle.octets.specs.Search.{least}
@@ -9,8 +8,6 @@ use Rattle.entry.specs.Entry.{lineEntry}
 use Rattle.entry.specs.Pieces.{pieces}
 use Rattle.entry.specs.declared.Entry.{Entry}
 use Rattle.entry.specs.declared.Entry.the-variants.{End, Bad}
-use Rattle.config.specs.declared.line.Line.{Line}
-use Rattle.config.specs.declared.line.Line.the-variants.{Whole, Last, Broken}
 
 -- what stands behind the last newline: nothing is the end, anything else is a line that no newline ends
 unfoldable pub lastEntry : List ℕ → Entry
@@ -30,9 +27,3 @@ entriesFrom text at = entries (pieces 10 (drop at text))
 -- where the first newline from a place on stands, or the length
 unfoldable pub newline : List ℕ → ℕ → ℕ
 newline text at = at + least (length text - at) (holds text at 10)
-
--- what the code's answer says of the line at a place
-abbrev pub LineIs : List ℕ → ℕ → Line → Type 0
-LineIs text at (Whole e next) = (entriesFrom text at ≡ e ∷ entriesFrom text next) × (at < next) × (next ≤ length text) × (next ≡ newline text at + 1)
-LineIs text at Last = (entriesFrom text at ≡ End ∷ []) × (at ≡ length text)
-LineIs text at Broken = entriesFrom text at ≡ Bad ∷ []

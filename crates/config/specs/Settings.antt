@@ -1,11 +1,11 @@
 -- The configuration text as a whole: `home` once, `node` at most once, `plmn` and `bar` at most 16 times each, in this order.
-use Prim.Native.Nat.{ℕ, _+_, _≤_, _<_}
-use mathlib.Core.Bool.{Bool, true, false, cond, not, _&&_, _||_}
+use Prim.Native.Nat.{ℕ, _+_, _≤_}
+use mathlib.Core.Bool.{Bool, true, false, cond, not, _&&_}
 use mathlib.Core.List.{List, [], _∷_, _++_, map}
 use mathlib.Core.Option.{Option, none, some}
-use mathlib.Core.Path.{_≡_}
-use lib.Dec.{leb, eqb}
+use lib.Dec.{leb}
 use lib.ListN.{length, take}
+use Rattle.network.specs.Plmn.{among}
 use Rattle.network.specs.declared.Plmn.{Plmn}
 use Rattle.entry.specs.declared.Entry.{Entry}
 use Rattle.entry.specs.declared.Entry.the-variants.{Home, Name, Preference, Bar, End, Bad}
@@ -15,10 +15,6 @@ use Rattle.config.specs.Lines.{entriesFrom, newline}
 use Rattle.config.specs.declared.Config.{Config}
 use Rattle.config.specs.declared.Node.{Node}
 use Rattle.config.specs.declared.Parsed.{Parsed}
-use Rattle.config.specs.declared.parse.Noded.{Noded}
-use Rattle.config.specs.declared.list.Listed.{Listed}
-use Rattle.config.specs.declared.list.Run.{Run}
-use Rattle.config.specs.declared.list.Listed.the-variants.{Is, Not}
 use Rattle.config.specs.declared.Node.the-variants as Node
 
 -- the PLMN of a `plmn` entry
@@ -40,15 +36,6 @@ settingsIn c = record {
   plmns = take (c .«plmn_count») (c .plmns);
   bars = map plmnIn (take (c .«bar_count») (c .bars));
 }
-
--- PLMNs are compared as numbers
-unfoldable pub samePlmn : Plmn → Plmn → Bool
-samePlmn p q = eqb (p .mcc) (q .mcc) && eqb (p .mnc) (q .mnc)
-
--- a PLMN stands in a list
-unfoldable pub among : Plmn → List Plmn → Bool
-among p [] = false
-among p (q ∷ qs) = samePlmn p q || among p qs
 
 -- no PLMN of a list stands before it, in the list or among those seen
 unfoldable pub newAfter : List Plmn → List Plmn → Bool
@@ -124,30 +111,6 @@ isEnd [] = false
 isEnd (e ∷ []) = ends e
 isEnd (e ∷ f ∷ es) = false
 
--- what the code's answer says of the listed entries from a place on
-abbrev pub ListedIs : Bool → List ℕ → ℕ → Listed → Type 0
-ListedIs bars text at (Is p next) =
-    (run (asListed bars) (entriesFrom text at) ≡ p ∷ run (asListed bars) (entriesFrom text next))
-    × (rest (asListed bars) (entriesFrom text at) ≡ rest (asListed bars) (entriesFrom text next)) × (at < next) × (next ≤ length text)
-ListedIs bars text at Not = (run (asListed bars) (entriesFrom text at) ≡ []) × (rest (asListed bars) (entriesFrom text at) ≡ entriesFrom text at)
-
--- the entry that an answer holds, and that its next place is the one handed in
-unfoldable pub listedOf : Listed → Option Preferred
-listedOf (Is p next) = some p
-listedOf Not = none
-
-abbrev pub nextOf : Listed → ℕ → Type 0
-nextOf (Is p to) next = to ≡ next
-nextOf Not next = Unit {0}
-
--- what the code's answer says of the entries of one kind from a place on
-pub record RunIs (bars : Bool) (text : List ℕ) (at : ℕ) (r : Run) : Type 0 where
-  pub ok-is : r .ok ≡ accepted (map plmnIn (run (asListed bars) (entriesFrom text at)))
-  pub list-is : r .ok ≡ true → run (asListed bars) (entriesFrom text at) ≡ take (r .count) (r .list)
-  pub rest-is : r .ok ≡ true → rest (asListed bars) (entriesFrom text at) ≡ entriesFrom text (r .next)
-  pub count-within : r .count ≤ 16
-  pub next-within : r .next ≤ length text
-
 -- `node` at the start of a list of entries, and what follows it
 unfoldable pub nodeOr : Option Node → Node
 nodeOr none = Node.None
@@ -190,13 +153,14 @@ configOf text = fromHome (namePlace text) (entriesFrom text 0)
 unfoldable pub parsed : Parsed → Option Settings
 parsed r = cond (r .ok) (some (settingsIn (r .config))) none
 
--- where the entries behind `node` begin
-unfoldable pub skip : Option Node → ℕ → ℕ → ℕ
-skip none at next = at
-skip (some n) at next = next
+-- a node name lies in the text
+abbrev pub NodeWithin : List ℕ → Node → Type 0
+NodeWithin text Node.None = Unit {0}
+NodeWithin text (Node.Name at n) = at + n ≤ length text
+NodeWithin text (Node.Address a) = Unit {0}
 
--- what the code's answer says of `node` at a place
-pub record NodedIs (text : List ℕ) (at : ℕ) (r : Noded) : Type 0 where
-  pub node-is : r .node ≡ firstNode (at + 10) (entriesFrom text at)
-  pub rest-is : afterNode (at + 10) (entriesFrom text at) ≡ entriesFrom text (r .next)
-  pub next-within : r .next ≤ length text
+-- what is kept of a text lies in the arrays and in the text
+pub record Within (text : List ℕ) (c : Config) : Type 0 where
+  pub plmns-within : c .«plmn_count» ≤ 16
+  pub bars-within : c .«bar_count» ≤ 16
+  pub name-within : NodeWithin text (c .node)

@@ -1,6 +1,6 @@
 // The configuration text.
 mod line;
-mod list;
+pub mod list;
 pub mod parse;
 
 use address::Address;

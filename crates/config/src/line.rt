@@ -5,7 +5,7 @@ use octets::slice::find;
 use octets::slice::part;
 ghost use Prim.Native.Nat.{_≤_};
 ghost use lib.ListN.{length};
-ghost use Rattle.config.specs.Lines.{LineIs};
+ghost use Rattle.config.specs.Branch.{LineIs};
 
 // What stands at a place where a line may begin.
 pub(crate) enum Line {

@@ -4,21 +4,15 @@ use crate::line::line_at;
 use entry::Entry;
 use entry::field::Preferred;
 use network::Plmn;
+use network::same_plmn;
+ghost use mathlib.Core.Bool.{false};
 ghost use mathlib.Core.Path.{_≡_};
 ghost use mathlib.Core.List.{map};
 ghost use Prim.Native.Nat.{_≤_};
 ghost use lib.ListN.{length, take};
-ghost use Rattle.config.specs.Settings.{among, asListed, listedOf, ListedIs, RunIs, nextOf, plmnIn, samePlmn};
-
-// Whether two PLMNs are the same numbers.
-pub(crate) fn same_plmn(p: Plmn, q: Plmn) -> bool
-    ensures { λ r. ⌜ r ≡ samePlmn p q ⌝ }
-{
-    if p.mcc != q.mcc {
-        return false;
-    }
-    p.mnc == q.mnc
-}
+ghost use Rattle.network.specs.Plmn.{among};
+ghost use Rattle.config.specs.Branch.{listedOf, ListedIs, RunIs, nextOf};
+ghost use Rattle.config.specs.Settings.{asListed, plmnIn};
 
 // What stands at a place where a listed entry may begin.
 pub(crate) enum Listed {
@@ -63,7 +57,7 @@ fn of_kind(e: Entry, bars: bool, next: usize) -> Listed
 }
 
 // Whether a PLMN stands among the first n preferred ones.
-fn has_preferred(list: [Preferred; 16], n: usize, p: Plmn) -> bool
+pub fn has_preferred(list: [Preferred; 16], n: usize, p: Plmn) -> bool
     requires { ⌜ n ≤ 16 ⌝ }
     ensures { λ r. ⌜ r ≡ among p (map plmnIn (take n list)) ⌝ }
 {
@@ -98,6 +92,21 @@ pub(crate) struct Run {
     pub next: usize,
 }
 
+// No entry, where there are too many or a PLMN stands twice.
+fn refused() -> Run
+    ensures { λ r. ⌜ (r .ok ≡ false) × (r .count ≡ 0) × (r .next ≡ 0) ⌝ }
+{
+    Run {
+        ok: false,
+        list: [Preferred {
+            plmn: Plmn { mcc: 0, mnc: 0 },
+            priority: 0,
+        }; 16],
+        count: 0,
+        next: 0,
+    }
+}
+
 // Collects the entries of one kind that follow one another, where there are at most 16 and no PLMN stands twice.
 pub(crate) fn collect(text: &[u8], start: usize, bars: bool) -> Run
     requires { ⌜ start ≤ length (now text) ⌝ }
@@ -120,20 +129,10 @@ pub(crate) fn collect(text: &[u8], start: usize, bars: bool) -> Run
             };
         };
         if count == 16 {
-            return Run {
-                ok: false,
-                list,
-                count,
-                next: at,
-            };
+            return refused();
         }
         if has_preferred(list, count, p.plmn) {
-            return Run {
-                ok: false,
-                list,
-                count,
-                next: at,
-            };
+            return refused();
         }
         list[count] = p;
         count += 1;

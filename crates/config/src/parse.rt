@@ -6,16 +6,17 @@ use crate::line::Line;
 use crate::line::line_at;
 use crate::list::collect;
 use entry::Entry;
-use entry::field::PlmnField;
 use entry::field::Preferred;
+use network::MaybePlmn;
 use network::Plmn;
 ghost use mathlib.Core.Option.{none};
 ghost use mathlib.Core.Path.{_≡_};
 ghost use Prim.Native.Nat.{_+_, _^_, _≤_, _<_};
 ghost use lib.ListN.{length};
-ghost use Rattle.entry.specs.Field.{plmnRead};
+ghost use Rattle.network.specs.Plmn.{plmnOption};
+ghost use Rattle.config.specs.Branch.{skip, Anywhere, NodedIs};
 ghost use Rattle.config.specs.Lines.{entriesFrom};
-ghost use Rattle.config.specs.Settings.{afterNode, asHome, asNode, configOf, firstNode, NodedIs, nodeOr, parsed, settle, skip, withHome};
+ghost use Rattle.config.specs.Settings.{afterNode, asHome, asNode, configOf, firstNode, nodeOr, parsed, settle, withHome, Within};
 
 // What `node` says, and where the entries behind it begin.
 pub(crate) struct Noded {
@@ -82,23 +83,24 @@ fn node_at(text: &[u8], at: usize) -> Noded
 }
 
 // The home PLMN that an entry says.
-fn home_of(e: Entry) -> PlmnField
-    ensures { λ r. ⌜ plmnRead r ≡ asHome e ⌝ }
+fn home_of(e: Entry) -> MaybePlmn
+    ensures { λ r. ⌜ plmnOption r ≡ asHome e ⌝ }
 {
     match e {
-        Entry::Home(p) => PlmnField::Is(p),
-        Entry::Name(_) => PlmnField::Not,
-        Entry::Node(_) => PlmnField::Not,
-        Entry::Preference(_) => PlmnField::Not,
-        Entry::Bar(_) => PlmnField::Not,
-        Entry::End => PlmnField::Not,
-        Entry::Bad => PlmnField::Not,
+        Entry::Home(p) => MaybePlmn::Is(p),
+        Entry::Name(_) => MaybePlmn::None,
+        Entry::Node(_) => MaybePlmn::None,
+        Entry::Preference(_) => MaybePlmn::None,
+        Entry::Bar(_) => MaybePlmn::None,
+        Entry::End => MaybePlmn::None,
+        Entry::Bad => MaybePlmn::None,
     }
 }
 
 // The answer for a text that is not well formed.
 fn ill_formed() -> Parsed
     ensures { λ r. ⌜ parsed r ≡ none ⌝ }
+    ensures { λ r. ⌜ Anywhere (r .config) ⌝ }
 {
     let home = Plmn { mcc: 0, mnc: 0 };
     let list = [Preferred {
@@ -122,6 +124,7 @@ fn ill_formed() -> Parsed
 fn settled(text: &[u8], home: Plmn, at: usize) -> Parsed
     requires { ⌜ at ≤ length (now text) ⌝ }
     ensures { λ r. ⌜ parsed r ≡ settle home (firstNode (at + 10) (entriesFrom (now (text .entry)) at)) (afterNode (at + 10) (entriesFrom (now (text .entry)) at)) ⌝ }
+    ensures { λ r. ⌜ Within (now (text .entry)) (r .config) ⌝ }
 {
     let noded = node_at(text, at);
     let node = noded.node;
@@ -155,8 +158,9 @@ fn settled(text: &[u8], home: Plmn, at: usize) -> Parsed
 fn with_home(text: &[u8], e: Entry, at: usize) -> Parsed
     requires { ⌜ at ≤ length (now text) ⌝ }
     ensures { λ r. ⌜ parsed r ≡ withHome (asHome e) (at + 10) (entriesFrom (now (text .entry)) at) ⌝ }
+    ensures { λ r. ⌜ Within (now (text .entry)) (r .config) ⌝ }
 {
-    let PlmnField::Is(home) = home_of(e) else {
+    let MaybePlmn::Is(home) = home_of(e) else {
         return ill_formed();
     };
     settled(text, home, at)
@@ -165,6 +169,7 @@ fn with_home(text: &[u8], e: Entry, at: usize) -> Parsed
 // Reads a configuration text.
 pub fn parse(text: &[u8]) -> Parsed
     ensures { λ r. ⌜ parsed r ≡ configOf (now (text .entry)) ⌝ }
+    ensures { λ r. ⌜ Within (now (text .entry)) (r .config) ⌝ }
 {
     match line_at(text, 0) {
         Line::Whole(e, next) => with_home(text, e, next),

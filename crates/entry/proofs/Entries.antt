@@ -15,13 +15,14 @@ use Rattle.octets.proofs.Parts.{length-part}
 use Rattle.text.specs.Text.{text, readDigits, numberRead}
 use Rattle.text.specs.declared.Reading.{Reading}
 use Rattle.text.specs.declared.Reading.the-variants.{Number, NotDigits}
+use Rattle.network.specs.Plmn.{plmnOption}
+use Rattle.network.specs.declared.MaybePlmn.{MaybePlmn}
+use Rattle.network.specs.declared.MaybePlmn.the-variants.{Is, None}
 use Rattle.network.specs.declared.Plmn.{Plmn}
 use Rattle.entry.specs.Entry.{barEntry, homeEntry, plmnEntry, nameEntry, v4From, v4Entry, v6From, v6Entry, nodeEntry, three, four, entryOf, lineEntry}
-use Rattle.entry.specs.Field.{plmnOf, plmnRead, priorityOf}
+use Rattle.entry.specs.Field.{plmnOf, priorityOf}
 use Rattle.entry.specs.Pieces.{before, pieces}
 use Rattle.entry.specs.declared.Entry.the-variants.{Preference, End, Bad}
-use Rattle.entry.specs.declared.field.PlmnField.{PlmnField}
-use Rattle.entry.specs.declared.field.PlmnField.the-variants.{Is, Not}
 use Rattle.entry.proofs.Splits.{split, whole}
 
 -- the word of a line picks its kind
@@ -83,14 +84,14 @@ module _ (w a b c : List ℕ) where
       preference e = rw (is-plmn, network, e)
 
 -- what a reading of a PLMN says
-module _ (a b : List ℕ) (r : PlmnField) (read : plmnRead r ≡ plmnOf a b) where
+module _ (a b : List ℕ) (r : MaybePlmn) (read : plmnOption r ≡ plmnOf a b) where
   pub plmn-said : {p : Plmn} → r ≡ Is p → plmnOf a b ≡ some p
-  unfolding plmnRead
-  plmn-said e = sym read ∙ ap plmnRead e
+  unfolding plmnOption
+  plmn-said e = sym read ∙ ap plmnOption e
 
-  pub no-plmn-said : r ≡ Not → plmnOf a b ≡ none
-  unfolding plmnRead
-  no-plmn-said e = sym read ∙ ap plmnRead e
+  pub no-plmn-said : r ≡ None → plmnOf a b ≡ none
+  unfolding plmnOption
+  no-plmn-said e = sym read ∙ ap plmnOption e
 
 -- what a reading of a part says
 module _ (o : Option ℕ) (r : Reading) (read : numberRead r ≡ o) where

@@ -9,8 +9,6 @@ use Rattle.octets.specs.Part.{same}
 use Rattle.octets.specs.Search.{allOf}
 use Rattle.text.specs.Text.{readDigits, decimal}
 use Rattle.network.specs.declared.Plmn.{Plmn}
-use Rattle.entry.specs.declared.field.PlmnField.{PlmnField}
-use Rattle.entry.specs.declared.field.PlmnField.the-variants.{Is, Not}
 
 -- a PLMN from its two numbers, where both fields are numbers
 unfoldable pub plmnFrom : Option ℕ → Option ℕ → Option Plmn
@@ -40,8 +38,3 @@ isNameCharacter c =
 -- a node name has 1 to 253 such characters
 unfoldable pub isName : List ℕ → Bool
 isName l = leb 1 (length l) && leb (length l) 253 && allOf isNameCharacter l
-
--- what the code's answer says
-unfoldable pub plmnRead : PlmnField → Option Plmn
-plmnRead (Is p) = some p
-plmnRead Not = none

@@ -1,10 +1,12 @@
 // Fields of an entry.
+use network::MaybePlmn;
 use network::Plmn;
 use text::Reading;
 use text::decimal_width;
 use text::read_digits;
 ghost use mathlib.Core.Path.{_≡_};
-ghost use Rattle.entry.specs.Field.{isName, isNameCharacter, plmnOf, priorityOf, plmnRead};
+ghost use Rattle.entry.specs.Field.{isName, isNameCharacter, plmnOf, priorityOf};
+ghost use Rattle.network.specs.Plmn.{plmnOption};
 ghost use Rattle.text.specs.Text.{numberRead};
 
 // A `plmn` entry: a PLMN and its priority, 0 the best.
@@ -13,32 +15,26 @@ pub struct Preferred {
     pub priority: u64,
 }
 
-// What the fields of a PLMN say.
-pub enum PlmnField {
-    Is(Plmn),
-    Not,
-}
-
 // The PLMN that an MCC and an MNC say.
-pub fn plmn(mcc: &[u8], mnc: &[u8]) -> PlmnField
-    ensures { λ r. ⌜ plmnRead r ≡ plmnOf (now (mcc .entry)) (now (mnc .entry)) ⌝ }
+pub fn plmn(mcc: &[u8], mnc: &[u8]) -> MaybePlmn
+    ensures { λ r. ⌜ plmnOption r ≡ plmnOf (now (mcc .entry)) (now (mnc .entry)) ⌝ }
 {
     if mcc.len() != 3 {
-        return PlmnField::Not;
+        return MaybePlmn::None;
     }
     if mnc.len() < 2 {
-        return PlmnField::Not;
+        return MaybePlmn::None;
     }
     if 3 < mnc.len() {
-        return PlmnField::Not;
+        return MaybePlmn::None;
     }
     let Reading::Number(country) = read_digits(mcc, 0, mcc.len(), 10) else {
-        return PlmnField::Not;
+        return MaybePlmn::None;
     };
     let Reading::Number(code) = read_digits(mnc, 0, mnc.len(), 10) else {
-        return PlmnField::Not;
+        return MaybePlmn::None;
     };
-    PlmnField::Is(Plmn {
+    MaybePlmn::Is(Plmn {
         mcc: country,
         mnc: code,
     })

@@ -2,11 +2,11 @@
 pub mod field;
 
 use address::Address;
-use field::PlmnField;
 use field::Preferred;
 use field::is_name;
 use field::plmn;
 use field::priority;
+use network::MaybePlmn;
 use network::Plmn;
 use octets::slice::find;
 use octets::slice::part;
@@ -108,8 +108,8 @@ fn home(mcc: &[u8], mnc: &[u8]) -> Entry
     ensures { λ r. ⌜ r ≡ homeEntry (plmnOf (now (mcc .entry)) (now (mnc .entry))) ⌝ }
 {
     match plmn(mcc, mnc) {
-        PlmnField::Is(p) => Entry::Home(p),
-        PlmnField::Not => Entry::Bad,
+        MaybePlmn::Is(p) => Entry::Home(p),
+        MaybePlmn::None => Entry::Bad,
     }
 }
 
@@ -118,8 +118,8 @@ fn bar(mcc: &[u8], mnc: &[u8]) -> Entry
     ensures { λ r. ⌜ r ≡ barEntry (plmnOf (now (mcc .entry)) (now (mnc .entry))) ⌝ }
 {
     match plmn(mcc, mnc) {
-        PlmnField::Is(p) => Entry::Bar(p),
-        PlmnField::Not => Entry::Bad,
+        MaybePlmn::Is(p) => Entry::Bar(p),
+        MaybePlmn::None => Entry::Bad,
     }
 }
 
@@ -130,7 +130,7 @@ fn of_four(word: &[u8], a: &[u8], b: &[u8], c: &[u8]) -> Entry
     if !same(word, b"plmn") {
         return Entry::Bad;
     }
-    let PlmnField::Is(p) = plmn(a, b) else {
+    let MaybePlmn::Is(p) = plmn(a, b) else {
         return Entry::Bad;
     };
     let Reading::Number(x) = priority(c) else {

@@ -1,4 +1,5 @@
--- The names of a network and of a visited country.
+-- Networks by their PLMN, and the names of a network and of a visited country.
+pub mod Plmn
 pub mod Name
 pub mod Laws
 pub mod Examples

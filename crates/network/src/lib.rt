@@ -3,17 +3,35 @@ use octets::slice::copy;
 use octets::slice::zero;
 use text::put_digits;
 ghost use mathlib.Core.List.{_++_};
+ghost use mathlib.Core.Path.{_≡_};
 ghost use Prim.Native.Nat.{_+_, _≤_};
 ghost use lib.ListN.{length};
 ghost use Rattle.octets.specs.Part.{Wrote};
 ghost use Rattle.text.specs.Text.{digitText};
 ghost use Rattle.network.specs.Name.{operatorName, visitedName, Named};
 ghost use Rattle.network.specs.Laws.{Laws};
+ghost use Rattle.network.specs.Plmn.{samePlmn};
 
 // A PLMN: the code of a country and the code of a network within it.
 pub struct Plmn {
     pub mcc: u64,
     pub mnc: u64,
+}
+
+// A PLMN or none.
+pub enum MaybePlmn {
+    Is(Plmn),
+    None,
+}
+
+// Whether two PLMNs are the same numbers.
+pub fn same_plmn(p: Plmn, q: Plmn) -> bool
+    ensures { λ r. ⌜ r ≡ samePlmn p q ⌝ }
+{
+    if p.mcc != q.mcc {
+        return false;
+    }
+    p.mnc == q.mnc
 }
 
 // Stores a label from `at` and right after it the last three decimal digits of a code.

@@ -3,4 +3,5 @@ pub mod Digits
 pub mod Fields
 pub mod Parts
 pub mod Refusals
+pub mod Rows
 pub mod Search

@@ -2,5 +2,6 @@
 pub mod Digits
 pub mod Part
 pub mod Search
+pub mod Row
 pub mod Refusal
 pub mod Laws

@@ -1,7 +1,6 @@
 -- `config::list::collect` meets its contract. The loop's invariant: the entries collected and those that are left make the whole, and no PLMN
 -- that is collected stands twice.
 use Prim.Native.Nat.{ℕ, _+_, _-_, _≤_, _<_}
-use mathlib.Core.Bool.{false≢true}
 use mathlib.Core.List.{List, [], _∷_, _++_, map}
 use mathlib.Core.Path.{_≡_, refl, sym, ap, _∙_, subst}
 use native.Mathlib.Numerals.{add-one}
@@ -12,9 +11,10 @@ use denote.Ref.{now}
 use borrow.Author.Needs.{needs}
 use Rattle.entry.specs.declared.field.Preferred.{Preferred}
 use Rattle.config.specs.Lines.{entriesFrom}
-use Rattle.config.specs.Settings.{plmnIn, newAfter, asListed, run, rest, ListedIs}
+use Rattle.config.specs.Branch.{ListedIs}
+use Rattle.config.specs.Settings.{plmnIn, newAfter, asListed, run, rest}
 use Rattle.config.specs.declared.list.Listed.{Listed}
-use Rattle.config.proofs.Collects.{all-collected, all-accepted, too-many, repeated, one-more, still-new}
+use Rattle.config.proofs.Collects.{not-accepted, all-collected, all-accepted, too-many, repeated, one-more, still-new}
 use Rattle.config.proofs.list.collect.Statement.{statement}
 use Rattle.config.proofs.list.collect.Tie as tie
 
@@ -68,37 +68,33 @@ returns c =
       next-within = at-loop .inv .0;
     }
 
+refused-requires : tie.Need-refused-requires Inv-loop μ-loop
+refused-requires c κs = search needs
+
 returns-2 : tie.Need-returns-2 Inv-loop μ-loop
 returns-2 c =
-    let a = c .before .before .before .before .before .before .before .args in
-    let at-loop = c .before .before .before .before .before .loop in
-    let one = subst (λ (r : Listed). ListedIs (a .bars) (now (a .text)) (at-loop .at) r) (c .before .before .p .given .1) (c .before .before .before .before .listed-at .ensures) in
+    let a = c .before .before .before .before .before .before .before .before .args in
+    let at-loop = c .before .before .before .before .before .before .loop in
+    let one = subst (λ (r : Listed). ListedIs (a .bars) (now (a .text)) (at-loop .at) r) (c .before .before .before .p .given .1) (c .before .before .before .before .before .listed-at .ensures) in
     let d = take (at-loop .count) (at-loop .list) in
-    record {
-      ok-is = too-many _ d _ (at-loop .inv .3) (at-loop .inv .5) _ _ (one .0) (sized (at-loop .list) (at-loop .count) (at-loop .inv .1) (at-loop .inv .2) ∙ c .if1 .taken);
-      list-is = λ e. absurd (false≢true e);
-      rest-is = λ e. absurd (false≢true e);
-      count-within = at-loop .inv .1;
-      next-within = at-loop .inv .0;
-    }
+    not-accepted (a .bars) (now (a .text)) (a .start) _ (c .refused .ensures)
+    (too-many _ d _ (at-loop .inv .3) (at-loop .inv .5) _ _ (one .0) (sized (at-loop .list) (at-loop .count) (at-loop .inv .1) (at-loop .inv .2) ∙ c .before .if1 .taken))
 
 has-preferred-requires : tie.Need-has-preferred-requires Inv-loop μ-loop
 has-preferred-requires c κs = search needs
 
+refused-requires-2 : tie.Need-refused-requires-2 Inv-loop μ-loop
+refused-requires-2 c κs = search needs
+
 returns-3 : tie.Need-returns-3 Inv-loop μ-loop
 unfolding plmnIn
 returns-3 c =
-    let a = c .before .before .before .before .before .before .before .before .before .args in
-    let at-loop = c .before .before .before .before .before .before .before .loop in
-    let one = subst (λ (r : Listed). ListedIs (a .bars) (now (a .text)) (at-loop .at) r) (c .before .before .before .before .p .given .1) (c .before .before .before .before .before .before .listed-at .ensures) in
+    let a = c .before .before .before .before .before .before .before .before .before .before .args in
+    let at-loop = c .before .before .before .before .before .before .before .before .loop in
+    let one = subst (λ (r : Listed). ListedIs (a .bars) (now (a .text)) (at-loop .at) r) (c .before .before .before .before .before .p .given .1) (c .before .before .before .before .before .before .before .listed-at .ensures) in
     let d = take (at-loop .count) (at-loop .list) in
-    record {
-      ok-is = repeated _ d _ (at-loop .inv .3) (at-loop .inv .5) _ _ (one .0) (sym (c .before .has-preferred .ensures) ∙ c .if2 .taken);
-      list-is = λ e. absurd (false≢true e);
-      rest-is = λ e. absurd (false≢true e);
-      count-within = at-loop .inv .1;
-      next-within = at-loop .inv .0;
-    }
+    not-accepted (a .bars) (now (a .text)) (a .start) _ (c .refused2 .ensures)
+    (repeated _ d _ (at-loop .inv .3) (at-loop .inv .5) _ _ (one .0) (sym (c .before .before .has-preferred .ensures) ∙ c .before .if2 .taken))
 
 mul-list : tie.Need-mul-list Inv-loop μ-loop
 mul-list c = search needs
@@ -147,8 +143,10 @@ collect-spec =
     enum-known-p
     enum-told
     returns
+    refused-requires
     returns-2
     has-preferred-requires
+    refused-requires-2
     returns-3
     mul-list
     array-set-from-list

@@ -9,7 +9,8 @@ use lib.Seq.{drop-cons, getD-take, length-take-le}
 use borrow.Author.Needs.{needs}
 use Rattle.network.specs.declared.Plmn.{Plmn}
 use Rattle.entry.specs.declared.field.Preferred.{Preferred}
-use Rattle.config.specs.Settings.{among, plmnIn, samePlmn}
+use Rattle.network.specs.Plmn.{among, samePlmn}
+use Rattle.config.specs.Settings.{plmnIn}
 use Rattle.config.proofs.list.has_preferred.Statement.{statement}
 use Rattle.config.proofs.list.has_preferred.Tie as tie
 

@@ -2,7 +2,7 @@
 use mathlib.Core.Path.{subst}
 use denote.Ref.{now}
 use borrow.Author.Needs.{needs}
-use Rattle.config.specs.Lines.{LineIs}
+use Rattle.config.specs.Branch.{LineIs}
 use Rattle.config.specs.declared.line.Line.{Line}
 use Rattle.config.proofs.Runs.{line-listed, end-listed, bad-listed}
 use Rattle.config.proofs.list.listed_at.Statement.{statement}

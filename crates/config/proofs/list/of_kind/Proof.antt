@@ -3,7 +3,8 @@ use mathlib.Core.Bool.{Bool}
 use mathlib.Core.Path.{_≡_, refl, sym, ap, ap₂}
 use borrow.Author.Needs.{needs}
 use Rattle.entry.specs.declared.Entry.{Entry}
-use Rattle.config.specs.Settings.{asListed, listedOf}
+use Rattle.config.specs.Branch.{listedOf}
+use Rattle.config.specs.Settings.{asListed}
 use Rattle.config.proofs.list.of_kind.Statement.{statement}
 use Rattle.config.proofs.list.of_kind.Tie as tie
 

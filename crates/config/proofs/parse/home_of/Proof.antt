@@ -1,7 +1,7 @@
 -- `config::parse::home_of` meets its contract: the entry picks the case.
 use mathlib.Core.Path.{sym, ap}
 use borrow.Author.Needs.{needs}
-use Rattle.entry.specs.Field.{plmnRead}
+use Rattle.network.specs.Plmn.{plmnOption}
 use Rattle.config.specs.Settings.{asHome}
 use Rattle.config.proofs.parse.home_of.Statement.{statement}
 use Rattle.config.proofs.parse.home_of.Tie as tie
@@ -28,31 +28,31 @@ enum-told-6 : tie.Need-enum-told-6
 enum-told-6 c = search needs
 
 returns : tie.Need-returns
-unfolding asHome plmnRead
+unfolding asHome plmnOption
 returns c = sym (ap asHome (c .before .e .given .1))
 
 returns-2 : tie.Need-returns-2
-unfolding asHome plmnRead
+unfolding asHome plmnOption
 returns-2 c = sym (ap asHome (c .enum-told .given .1))
 
 returns-3 : tie.Need-returns-3
-unfolding asHome plmnRead
+unfolding asHome plmnOption
 returns-3 c = sym (ap asHome (c .enum-told2 .given .1))
 
 returns-4 : tie.Need-returns-4
-unfolding asHome plmnRead
+unfolding asHome plmnOption
 returns-4 c = sym (ap asHome (c .enum-told3 .given .1))
 
 returns-5 : tie.Need-returns-5
-unfolding asHome plmnRead
+unfolding asHome plmnOption
 returns-5 c = sym (ap asHome (c .enum-told4 .given .1))
 
 returns-6 : tie.Need-returns-6
-unfolding asHome plmnRead
+unfolding asHome plmnOption
 returns-6 c = sym (ap asHome (c .enum-told5 .given .1))
 
 returns-7 : tie.Need-returns-7
-unfolding asHome plmnRead
+unfolding asHome plmnOption
 returns-7 c = sym (ap asHome (c .enum-told6 .given .1))
 
 pub home-of-spec : {M : Type 1} → statement M

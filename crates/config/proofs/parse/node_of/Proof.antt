@@ -3,7 +3,8 @@ use Prim.Native.Nat.{_+_}
 use mathlib.Core.Path.{sym, ap}
 use borrow.Author.Needs.{needs}
 use Rattle.entry.specs.declared.Entry.{Entry}
-use Rattle.config.specs.Settings.{asNode, nodeOr, skip}
+use Rattle.config.specs.Branch.{skip}
+use Rattle.config.specs.Settings.{asNode, nodeOr}
 use Rattle.config.proofs.parse.node_of.Statement.{statement}
 use Rattle.config.proofs.parse.node_of.Tie as tie
 

@@ -21,7 +21,7 @@ ill-formed-requires : tie.Need-ill-formed-requires
 ill-formed-requires c κs = search needs
 
 returns : tie.Need-returns
-returns c = c .ill-formed .ensures ∙ bad-plmns _ _ _ _ _ (c .before .before .before .before .node-at .ensures .rest-is) _ (c .before .before .before .collect .ensures) (not-true _ (c .before .if1 .taken))
+returns c = (c .ill-formed .ensures .0 ∙ bad-plmns _ _ _ _ _ (c .before .before .before .before .node-at .ensures .rest-is) _ (c .before .before .before .collect .ensures) (not-true _ (c .before .if1 .taken)), c .ill-formed .ensures .1 _)
 
 collect-requires-2 : tie.Need-collect-requires-2
 collect-requires-2 c κs = c .before .before .collect .ensures .next-within
@@ -30,21 +30,27 @@ ill-formed-requires-2 : tie.Need-ill-formed-requires-2
 ill-formed-requires-2 c κs = search needs
 
 returns-2 : tie.Need-returns-2
-returns-2 c = c .ill-formed2 .ensures ∙ bad-bars _ _ _ _ _ (c .before .before .before .before .before .before .before .node-at .ensures .rest-is) _ (c .before .before .before .before .before .before .collect .ensures) (not-false _ (c .before .before .before .before .if1 .left)) _ (c .before .before .before .collect2 .ensures) (not-true _ (c .before .if2 .taken))
+returns-2 c = (c .ill-formed2 .ensures .0 ∙ bad-bars _ _ _ _ _ (c .before .before .before .before .before .before .before .node-at .ensures .rest-is) _ (c .before .before .before .before .before .before .collect .ensures) (not-false _ (c .before .before .before .before .if1 .left)) _ (c .before .before .before .collect2 .ensures) (not-true _ (c .before .if2 .taken)), c .ill-formed2 .ensures .1 _)
 
 ill-formed-requires-3 : tie.Need-ill-formed-requires-3
 ill-formed-requires-3 c κs = search needs
 
 returns-3 : tie.Need-returns-3
-returns-3 c = c .ill-formed3 .ensures ∙ unfinished _ _ _ _ _ (c .before .before .before .before .before .before .before .before .before .node-at .ensures .rest-is) _ (c .before .before .before .before .before .before .before .before .collect .ensures) (not-false _ (c .before .before .before .before .before .before .if1 .left)) _ (c .before .before .before .before .before .collect2 .ensures) (not-false _ (c .before .before .before .if2 .left)) (c .before .if3 .taken)
+returns-3 c = (c .ill-formed3 .ensures .0 ∙ unfinished _ _ _ _ _ (c .before .before .before .before .before .before .before .before .before .node-at .ensures .rest-is) _ (c .before .before .before .before .before .before .before .before .collect .ensures) (not-false _ (c .before .before .before .before .before .before .if1 .left)) _ (c .before .before .before .before .before .collect2 .ensures) (not-false _ (c .before .before .before .if2 .left)) (c .before .if3 .taken), c .ill-formed3 .ensures .1 _)
 
 returns-4 : tie.Need-returns-4
 unfolding parsed settingsIn
 returns-4 c =
     let P = c .before .before .before .before .before .before .before .before .before .collect .result in
-    let Q = c .before .before .before .before .before .before .collect2 .result in
-    ap (λ (n : Node). some (record { home = c .before .before .before .before .before .before .before .before .before .before .before .before .args .home; node = n; plmns = take (P .count) (P .list); bars = map plmnIn (take (Q .count) (Q .list)) })) (c .before .before .before .before .before .before .before .before .before .before .node-at .ensures .node-is)
-    ∙ finished _ _ _ _ _ (c .before .before .before .before .before .before .before .before .before .before .node-at .ensures .rest-is) _ (c .before .before .before .before .before .before .before .before .before .collect .ensures) (not-false _ (c .before .before .before .before .before .before .before .if1 .left)) _ (c .before .before .before .before .before .before .collect2 .ensures) (not-false _ (c .before .before .before .before .if2 .left)) (c .before .before .if3 .left)
+    let Q = c .before .before .before .before .before .before .collect2 .result in (
+      ap (λ (n : Node). some (record { home = c .before .before .before .before .before .before .before .before .before .before .before .before .args .home; node = n; plmns = take (P .count) (P .list); bars = map plmnIn (take (Q .count) (Q .list)) })) (c .before .before .before .before .before .before .before .before .before .before .node-at .ensures .node-is)
+          ∙ finished _ _ _ _ _ (c .before .before .before .before .before .before .before .before .before .before .node-at .ensures .rest-is) _ (c .before .before .before .before .before .before .before .before .before .collect .ensures) (not-false _ (c .before .before .before .before .before .before .before .if1 .left)) _ (c .before .before .before .before .before .before .collect2 .ensures) (not-false _ (c .before .before .before .before .if2 .left)) (c .before .before .if3 .left),
+      record {
+        plmns-within = c .before .before .before .before .before .before .before .before .before .collect .ensures .count-within;
+        bars-within = c .before .before .before .before .before .before .collect2 .ensures .count-within;
+        name-within = c .before .before .before .before .before .before .before .before .before .before .node-at .ensures .name-within;
+      },
+    )
 
 pub settled-spec : {M : Type 1} → statement M
 settled-spec =

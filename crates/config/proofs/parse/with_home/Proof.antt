@@ -5,7 +5,7 @@ use mathlib.Core.Path.{_≡_, sym, ap, _∙_}
 use denote.Ref.{now}
 use borrow.Author.Needs.{needs}
 use Rattle.network.specs.declared.Plmn.{Plmn}
-use Rattle.entry.specs.Field.{plmnRead}
+use Rattle.network.specs.Plmn.{plmnOption}
 use Rattle.config.specs.Lines.{entriesFrom}
 use Rattle.config.specs.Settings.{asHome, withHome}
 use Rattle.config.proofs.parse.with_home.Statement.{statement}
@@ -24,21 +24,21 @@ ill-formed-requires : tie.Need-ill-formed-requires
 ill-formed-requires c κs = search needs
 
 returns : tie.Need-returns
-unfolding withHome plmnRead
+unfolding withHome plmnOption
 returns c =
     let a = c .before .before .before .before .before .args in
-    let nothing : asHome (a .e) ≡ none = sym (c .before .before .before .home-of .ensures) ∙ ap plmnRead (c .before .enum-told .given .1) in
-    c .ill-formed .ensures ∙ sym (ap (λ (o : Option Plmn). withHome o (a .at + 10) (entriesFrom (now (a .text)) (a .at))) nothing)
+    let nothing : asHome (a .e) ≡ none = sym (c .before .before .before .home-of .ensures) ∙ ap plmnOption (c .before .enum-told .given .1) in
+    (c .ill-formed .ensures .0 ∙ sym (ap (λ (o : Option Plmn). withHome o (a .at + 10) (entriesFrom (now (a .text)) (a .at))) nothing), c .ill-formed .ensures .1 _)
 
 settled-requires : tie.Need-settled-requires
 settled-requires c κs = search needs
 
 returns-2 : tie.Need-returns-2
-unfolding withHome plmnRead
+unfolding withHome plmnOption
 returns-2 c =
     let a = c .before .before .before .before .before .before .args in
-    let said : asHome (a .e) ≡ some (c .before .before .home .given .0 .0) = sym (c .before .before .before .before .home-of .ensures) ∙ ap plmnRead (c .before .before .home .given .1) in
-    c .settled .ensures ∙ sym (ap (λ (o : Option Plmn). withHome o (a .at + 10) (entriesFrom (now (a .text)) (a .at))) said)
+    let said : asHome (a .e) ≡ some (c .before .before .home .given .0 .0) = sym (c .before .before .before .before .home-of .ensures) ∙ ap plmnOption (c .before .before .home .given .1) in
+    (c .settled .ensures .0 ∙ sym (ap (λ (o : Option Plmn). withHome o (a .at + 10) (entriesFrom (now (a .text)) (a .at))) said), c .settled .ensures .1)
 
 pub with-home-spec : {M : Type 1} → statement M
 with-home-spec =

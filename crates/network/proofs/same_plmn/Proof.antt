@@ -1,8 +1,8 @@
--- `config::list::same_plmn` meets its contract: the MCCs are compared first.
+-- `network::same_plmn` meets its contract: the MCCs are compared first.
 use borrow.Author.Tests.{eq-eqb, ne-eqb}
-use Rattle.config.specs.Settings.{samePlmn}
-use Rattle.config.proofs.list.same_plmn.Statement.{statement}
-use Rattle.config.proofs.list.same_plmn.Tie as tie
+use Rattle.network.specs.Plmn.{samePlmn}
+use Rattle.network.proofs.same_plmn.Statement.{statement}
+use Rattle.network.proofs.same_plmn.Tie as tie
 
 returns : tie.Need-returns
 unfolding samePlmn

@@ -1,0 +1,22 @@
+-- PLMNs: compared, listed, and one that may be missing.
+use mathlib.Core.Bool.{Bool, false, _&&_, _||_}
+use mathlib.Core.List.{List, [], _∷_}
+use mathlib.Core.Option.{Option, none, some}
+use lib.Dec.{eqb}
+use Rattle.network.specs.declared.Plmn.{Plmn}
+use Rattle.network.specs.declared.MaybePlmn.{MaybePlmn}
+use Rattle.network.specs.declared.MaybePlmn.the-variants.{Is, None}
+
+-- PLMNs are compared as numbers
+unfoldable pub samePlmn : Plmn → Plmn → Bool
+samePlmn p q = eqb (p .mcc) (q .mcc) && eqb (p .mnc) (q .mnc)
+
+-- a PLMN stands in a list
+unfoldable pub among : Plmn → List Plmn → Bool
+among p [] = false
+among p (q ∷ qs) = samePlmn p q || among p qs
+
+-- a PLMN or none
+unfoldable pub plmnOption : MaybePlmn → Option Plmn
+plmnOption (Is p) = some p
+plmnOption None = none

@@ -1,0 +1,31 @@
+-- Lists of anything: values by number, the elements that pass a test, and the first of them.
+use Prim.Native.Nat.{ℕ, zero, suc}
+use mathlib.Core.Bool.{Bool, true, false, cond}
+use mathlib.Core.List.{List, [], _∷_}
+use mathlib.Core.Option.{Option, none, some}
+
+module _ {A : Type 0} where
+  -- n values of f, the one at k first
+  unfoldable pub row : (ℕ → A) → ℕ → ℕ → List A
+  row f k zero = []
+  row f k (suc n) = f k ∷ row f (suc k) n
+
+  -- how many elements stand before the first that passes: all of them where none does
+  unfoldable pub place : (A → Bool) → List A → ℕ
+  place p [] = 0
+  place p (x ∷ xs) = cond (p x) 0 (suc (place p xs))
+
+  -- the first element that passes
+  unfoldable pub first : (A → Bool) → List A → Option A
+  first p [] = none
+  first p (x ∷ xs) = cond (p x) (some x) (first p xs)
+
+  -- one element more, where it passes
+  unfoldable pub keep : Bool → A → List A → List A
+  keep true x xs = x ∷ xs
+  keep false x xs = xs
+
+  -- the elements that pass
+  unfoldable pub only : (A → Bool) → List A → List A
+  only p [] = []
+  only p (x ∷ xs) = keep (p x) x (only p xs)
