@@ -1,7 +1,69 @@
-// IP addresses of both versions.
+// IP addresses of both versions, and when one is permitted.
+ghost use mathlib.Core.Path.{_≡_};
+ghost use Prim.Native.Nat.{_≤_};
+ghost use Rattle.address.specs.Address.{heldIn, permitted, sameAddress, stands, versionOf};
 
 // An address: 32 bits of version 4, or the two halves of 128 bits of version 6.
 pub enum Address {
     V4(u64),
     V6(u64, u64),
+}
+
+// An address on hold.
+pub struct Hold {
+    pub address: Address,
+}
+
+// The IP version of an address: 4 or 6.
+pub fn version(a: Address) -> u64
+    ensures { λ r. ⌜ r ≡ versionOf a ⌝ }
+{
+    match a {
+        Address::V4(_) => 4,
+        Address::V6(_, _) => 6,
+    }
+}
+
+// Whether two addresses are the same.
+pub fn same_address(a: Address, b: Address) -> bool
+    ensures { λ r. ⌜ r ≡ sameAddress a b ⌝ }
+{
+    match a {
+        Address::V4(x) => match b {
+            Address::V4(y) => x == y,
+            Address::V6(_, _) => false,
+        },
+        Address::V6(h, l) => match b {
+            Address::V4(_) => false,
+            Address::V6(i, m) => (h == i) & (l == m),
+        },
+    }
+}
+
+// Whether an address stands among the first n holds.
+pub fn is_held(holds: [Hold; 8], n: usize, a: Address) -> bool
+    requires { ⌜ n ≤ 8 ⌝ }
+    ensures { λ r. ⌜ r ≡ stands a (heldIn holds n) ⌝ }
+{
+    let mut i = 0;
+    while i < n {
+        let hold = holds[i];
+        let held = hold.address;
+        if same_address(a, held) {
+            return true;
+        }
+        i += 1;
+    }
+    false
+}
+
+// Whether an address has the local IP version and is not on hold.
+pub fn is_permitted(a: Address, local: u64, holds: [Hold; 8], n: usize) -> bool
+    requires { ⌜ n ≤ 8 ⌝ }
+    ensures { λ r. ⌜ r ≡ permitted local (heldIn holds n) a ⌝ }
+{
+    if version(a) != local {
+        return false;
+    }
+    !is_held(holds, n, a)
 }

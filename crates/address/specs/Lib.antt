@@ -1,0 +1,2 @@
+-- When an address is permitted.
+pub mod Address

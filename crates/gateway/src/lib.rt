@@ -1,0 +1,47 @@
+// Choosing an address of the gateway.
+use address::Address;
+use address::Hold;
+use address::is_permitted;
+use lists::address_at;
+ghost use mathlib.Core.List.{[], _∷_};
+ghost use mathlib.Core.Path.{_≡_};
+ghost use Prim.Native.Nat.{_≤_};
+ghost use Rattle.address.specs.Address.{heldIn};
+ghost use Rattle.lists.specs.Lists.{addressesIn};
+ghost use Rattle.gateway.specs.Gateway.{choose};
+
+// What a list of addresses gives.
+pub enum Found {
+    // An address, and how many were passed over before it.
+    Chosen(Address, usize),
+    // None is permitted: how many were passed over.
+    Nothing(usize),
+}
+
+// Chooses from a list of addresses.
+pub fn choose(list: &[u8], local: u64, holds: [Hold; 8], n: usize) -> Found
+    requires { ⌜ n ≤ 8 ⌝ }
+    ensures { λ r. ⌜ r ≡ choose local (heldIn holds n) (addressesIn (now (list .entry))) ⌝ }
+{
+    let count = list.len() / 17;
+    let mut i = 0;
+    while i < count {
+        let a = address_at(list, i);
+        if is_permitted(a, local, holds, n) {
+            return Found::Chosen(a, i);
+        }
+        i += 1;
+    }
+    Found::Nothing(i)
+}
+
+// Chooses from a list of one address.
+pub fn choose_one(a: Address, local: u64, holds: [Hold; 8], n: usize) -> Found
+    requires { ⌜ n ≤ 8 ⌝ }
+    ensures { λ r. ⌜ r ≡ choose local (heldIn holds n) (a ∷ []) ⌝ }
+{
+    if is_permitted(a, local, holds, n) {
+        return Found::Chosen(a, 0);
+    }
+    Found::Nothing(1)
+}

@@ -1,0 +1,2 @@
+-- The lists of networks and addresses that answers lend.
+pub mod Lists

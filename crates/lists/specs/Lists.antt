@@ -1,0 +1,50 @@
+-- Lent lists, entry by entry: a network has 4 octets, an address 17.
+use Prim.Native.Nat.{ℕ, _+_, _*_, _/_, _%_}
+use mathlib.Core.Bool.{Bool, cond, _&&_, _||_}
+use mathlib.Core.List.{List}
+use lib.Dec.{leb, eqb}
+use lib.ListN.{length}
+use Rattle.octets.specs.Digits.{field}
+use Rattle.octets.specs.Part.{part, zeros, same}
+use Rattle.octets.specs.Row.{row}
+use Rattle.octets.specs.Search.{all}
+use Rattle.network.specs.declared.Plmn.{Plmn}
+use Rattle.address.specs.declared.Address.{Address}
+use Rattle.address.specs.declared.Address.the-variants.{V4, V6}
+
+-- at most 16 whole entries of a size
+unfoldable pub whole : ℕ → List ℕ → Bool
+whole size l = eqb (length l % size) 0 && leb (length l / size) 16
+
+-- a network is its MCC and its MNC, two octets each
+unfoldable pub networkAt : List ℕ → ℕ → Plmn
+networkAt l i = record { mcc = field l (4 * i) 2; mnc = field l (4 * i + 2) 2 }
+
+-- MCC and MNC are 0 to 999
+unfoldable pub networkFits : List ℕ → ℕ → Bool
+networkFits l i = leb (networkAt l i .mcc) 999 && leb (networkAt l i .mnc) 999
+
+-- a list of networks that is not refused by 8
+unfoldable pub networksFit : List ℕ → Bool
+networksFit l = whole 4 l && all (length l / 4) (networkFits l)
+
+unfoldable pub networksIn : List ℕ → List Plmn
+networksIn l = row (networkAt l) 0 (length l / 4)
+
+-- an address is its version, 4 or 6, and 16 octets, of which version 4 has 4
+unfoldable pub versionAt : List ℕ → ℕ → ℕ
+versionAt l i = field l (17 * i) 1
+
+unfoldable pub addressAt : List ℕ → ℕ → Address
+addressAt l i = cond (eqb (versionAt l i) 4) (V4 (field l (17 * i + 1) 4)) (V6 (field l (17 * i + 1) 8) (field l (17 * i + 9) 8))
+
+-- behind version 4's octets stand zeros
+unfoldable pub addressFits : List ℕ → ℕ → Bool
+addressFits l i = eqb (versionAt l i) 6 || eqb (versionAt l i) 4 && same (part l (17 * i + 5) 12) (zeros 12)
+
+-- a list of addresses that is not refused by 8
+unfoldable pub addressesFit : List ℕ → Bool
+addressesFit l = whole 17 l && all (length l / 17) (addressFits l)
+
+unfoldable pub addressesIn : List ℕ → List Address
+addressesIn l = row (addressAt l) 0 (length l / 17)

@@ -1,0 +1,105 @@
+// Lent lists of networks and of addresses, read entry by entry.
+use address::Address;
+use network::Plmn;
+use octets::number::get;
+use octets::slice::part;
+use octets::slice::same;
+ghost use mathlib.Core.Path.{_≡_};
+ghost use Prim.Native.Nat.{_+_, _*_, _≤_, _<_};
+ghost use lib.ListN.{length};
+ghost use Rattle.lists.specs.Lists.{addressAt, addressesFit, addressFits, networkAt, networkFits, networksFit, whole};
+
+// Whether a list has at most 16 whole entries of a size.
+fn is_whole(list: &[u8], size: usize) -> bool
+    requires { ⌜ 0 < size ⌝ }
+    ensures { λ r. ⌜ r ≡ whole size (now (list .entry)) ⌝ }
+{
+    if list.len() % size != 0 {
+        return false;
+    }
+    list.len() / size <= 16
+}
+
+// The network at a place.
+pub fn network_at(list: &[u8], i: usize) -> Plmn
+    requires { ⌜ 4 * i + 4 ≤ length (now list) ⌝ }
+    ensures { λ r. ⌜ r ≡ networkAt (now (list .entry)) i ⌝ }
+{
+    Plmn {
+        mcc: get(list, 4 * i, 2),
+        mnc: get(list, 4 * i + 2, 2),
+    }
+}
+
+// Whether the numbers of the network at a place are in their ranges.
+fn network_fits(list: &[u8], i: usize) -> bool
+    requires { ⌜ 4 * i + 4 ≤ length (now list) ⌝ }
+    ensures { λ r. ⌜ r ≡ networkFits (now (list .entry)) i ⌝ }
+{
+    let p = network_at(list, i);
+    (p.mcc <= 999) & (p.mnc <= 999)
+}
+
+// Whether a list is one of networks.
+pub fn networks_fit(list: &[u8]) -> bool
+    ensures { λ r. ⌜ r ≡ networksFit (now (list .entry)) ⌝ }
+{
+    if !is_whole(list, 4) {
+        return false;
+    }
+    let n = list.len() / 4;
+    let mut i = 0;
+    while i < n {
+        if !network_fits(list, i) {
+            return false;
+        }
+        i += 1;
+    }
+    true
+}
+
+// The address at a place.
+pub fn address_at(list: &[u8], i: usize) -> Address
+    requires { ⌜ 17 * i + 17 ≤ length (now list) ⌝ }
+    ensures { λ r. ⌜ r ≡ addressAt (now (list .entry)) i ⌝ }
+{
+    let at = 17 * i;
+    if get(list, at, 1) == 4 {
+        return Address::V4(get(list, at + 1, 4));
+    }
+    Address::V6(get(list, at + 1, 8), get(list, at + 9, 8))
+}
+
+// Whether the address at a place is of version 6, or of version 4 with zeros behind it.
+fn address_fits(list: &[u8], i: usize) -> bool
+    requires { ⌜ 17 * i + 17 ≤ length (now list) ⌝ }
+    ensures { λ r. ⌜ r ≡ addressFits (now (list .entry)) i ⌝ }
+{
+    let at = 17 * i;
+    let version = get(list, at, 1);
+    if version == 6 {
+        return true;
+    }
+    if version != 4 {
+        return false;
+    }
+    same(part(list, at + 5, 12), &[0u8; 12])
+}
+
+// Whether a list is one of addresses.
+pub fn addresses_fit(list: &[u8]) -> bool
+    ensures { λ r. ⌜ r ≡ addressesFit (now (list .entry)) ⌝ }
+{
+    if !is_whole(list, 17) {
+        return false;
+    }
+    let n = list.len() / 17;
+    let mut i = 0;
+    while i < n {
+        if !address_fits(list, i) {
+            return false;
+        }
+        i += 1;
+    }
+    true
+}
