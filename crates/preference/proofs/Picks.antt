@@ -1,0 +1,118 @@
+-- The laws of networks in a list, and of the best record.
+use Prim.Native.Nat.{ℕ, zero, suc, _+_, _-_, _/_, _≤_, _<_}
+use mathlib.Core.Bool.{Bool, true, false, _||_}
+use mathlib.Core.List.{List, [], _∷_}
+use mathlib.Core.Option.{Option, none, some}
+use mathlib.Core.Path.{_≡_, refl, sym, ap, _∙_, subst}
+use native.Mathlib.Nat.{suc-ne-zero}
+use native.Mathlib.Omega.{arith}
+use lib.Dec.{ltb}
+use lib.ListN.{length, getD, take, drop, drop-of-length-le}
+use lib.Seq.{drop-cons, getD-take, length-take-le}
+use borrow.Author.Tests.{le-leb, lt-leb, lt-ltb}
+use Rattle.octets.specs.Row.{row, keep, only}
+use Rattle.octets.proofs.Rows.{row-more, row-done}
+use Rattle.network.specs.Plmn.{samePlmn, among}
+use Rattle.network.specs.declared.Plmn.{Plmn}
+use Rattle.entry.specs.declared.field.Preferred.{Preferred}
+use Rattle.config.specs.Settings.{plmnIn}
+use Rattle.lists.specs.Lists.{networkAt, networksIn}
+use Rattle.preference.specs.Branch.{whereFound}
+use Rattle.preference.specs.Preference.{better, best, hasPlmns, networkOf, visited, offered}
+use Rattle.preference.specs.declared.Place.{Place}
+
+-- networks in a row, from the one at i on
+module _ (f : ℕ → Plmn) (i n : ℕ) (p : Plmn) where
+  -- the next network decides first
+  pub among-more : i < n → (t : Bool) → samePlmn p (f i) ≡ t → among p (row f i (n - i)) ≡ t || among p (row f (i + 1) (n - (i + 1)))
+  unfolding among
+  among-more h t e = rw (row-more f i n h, e)
+
+  -- none is left
+  pub among-done : n ≤ i → among p (row f i (n - i)) ≡ false
+  unfolding among
+  among-done h = rw (row-done f i n h)
+
+-- a list has networks exactly if it has four octets
+module _ (l : List ℕ) where
+  pub no-network : length l < 4 → networksIn l ≡ []
+  unfolding networksIn row
+  no-network h =
+      let few : length l / 4 ≡ 0 = omega arith in
+      rw few
+
+  pub some-network : 4 ≤ length l → (q : Plmn) × (qs : List Plmn) × (networksIn l ≡ q ∷ qs)
+  unfolding networksIn row
+  some-network h =
+      let more : length l / 4 ≡ suc (length l / 4 - 1) = omega arith in
+      (networkAt l 0, row (networkAt l) 1 (length l / 4 - 1), ap (row (networkAt l) 0) more)
+
+  module _ (place : Place) (p : Plmn) where
+    pub offers-visited : length l < 4 → visited place p ≡ offered (networksIn l) place p
+    unfolding offered
+    offers-visited h = sym (rw (no-network h))
+
+    pub offers-listed : 4 ≤ length l → among p (networksIn l) ≡ offered (networksIn l) place p
+    unfolding offered
+    offers-listed h = rw (some-network h .2)
+
+-- of two records the better one
+module _ (x y : Preferred) where
+  pub better-later : y .priority < x .priority → y ≡ better x (some y)
+  unfolding better
+  better-later h = sym (rw (lt-leb (x .priority) (y .priority) h))
+
+  pub better-earlier : x .priority ≤ y .priority → x ≡ better x (some y)
+  unfolding better
+  better-earlier h = sym (rw (le-leb (x .priority) (y .priority) h))
+
+-- what stands past the end of a list
+abbrev pub nothing : Preferred
+nothing = record { plmn = record { mcc = 0; mnc = 0 }; priority = 0 }
+
+-- the best of the records from i on, of those that pass
+module _ (p : Preferred → Bool) (l : List Preferred) (n i : ℕ) (long : n ≤ length l) where
+  pub none-behind : n ≤ i → none ≡ best (only p (drop i (take n l)))
+  unfolding best only
+  none-behind h =
+      let all : length (take n l) ≤ i = rw (length-take-le n l long) h in
+      sym (rw (drop-of-length-le (take n l) all))
+
+  -- one record more
+  split : (t : Bool) → i < n → p (getD l i nothing) ≡ t → only p (drop i (take n l)) ≡ keep t (getD l i nothing) (only p (drop (suc i) (take n l)))
+  unfolding only
+  split t h e = rw (drop-cons (take n l) i nothing (rw (length-take-le n l long) h), getD-take n l i nothing h, e)
+
+  module _ (k : ℕ) (next : k ≡ suc i) (inside : i < n) (o : Option Preferred) (behind : o ≡ best (only p (drop k (take n l)))) where
+    from-next : o ≡ best (only p (drop (suc i) (take n l)))
+    from-next = subst (λ (m : ℕ). o ≡ best (only p (drop m (take n l)))) next behind
+
+    -- which passes
+    pub best-more : p (getD l i nothing) ≡ true → some (better (getD l i nothing) o) ≡ best (only p (drop i (take n l)))
+    unfolding best keep
+    best-more e = sym (rw (split true inside e, from-next))
+
+    -- which does not
+    pub best-same : p (getD l i nothing) ≡ false → o ≡ best (only p (drop i (take n l)))
+    unfolding keep
+    best-same e = from-next ∙ sym (ap best (split false inside e))
+
+-- there are records where their count is not 0
+pub some-plmns : (n : ℕ) (l : List Preferred) → length l ≡ 16 → ltb 0 n ≡ hasPlmns (take n l)
+unfolding hasPlmns
+some-plmns zero l h = refl
+some-plmns (suc n) [] h = absurd (suc-ne-zero _ (sym h))
+some-plmns (suc n) (x ∷ l) h = lt-ltb 0 (suc n) (omega arith)
+
+-- at the first record the whole list is behind
+module _ (p : Preferred → Bool) (l : List Preferred) (i : ℕ) (found : Bool) (top : Preferred) (behind : whereFound found top ≡ best (only p (drop i l))) (done : i ≡ 0) where
+  at-first : whereFound found top ≡ best (only p l)
+  at-first = subst (λ (k : ℕ). whereFound found top ≡ best (only p (drop k l))) done behind
+
+  pub found-best : found ≡ true → some (plmnIn top) ≡ networkOf (best (only p l))
+  unfolding networkOf whereFound
+  found-best e = ap networkOf (sym (ap (λ (t : Bool). whereFound t top) e) ∙ at-first)
+
+  pub found-none : found ≡ false → none ≡ networkOf (best (only p l))
+  unfolding networkOf whereFound
+  found-none e = ap networkOf (sym (ap (λ (t : Bool). whereFound t top) e) ∙ at-first)

@@ -1,0 +1,179 @@
+// What a configuration says of networks.
+use config::Config;
+use config::Node;
+use config::list::has_preferred;
+use entry::field::Preferred;
+use lists::network_at;
+use network::MaybePlmn;
+use network::Plmn;
+use network::same_plmn;
+ghost use mathlib.Core.Path.{_≡_};
+ghost use Prim.Native.Nat.{_≤_};
+ghost use lib.ListN.{take};
+ghost use Rattle.octets.specs.Row.{only};
+ghost use Rattle.network.specs.Plmn.{among, plmnOption};
+ghost use Rattle.config.specs.Settings.{settingsIn};
+ghost use Rattle.lists.specs.Lists.{networksIn};
+ghost use Rattle.preference.specs.Branch.{whereFound, Counted};
+ghost use Rattle.preference.specs.Preference.{barred, best, better, eligible, hasPlmns, networkOf, offered, preferred, provisioned, ranked, unranked, visited};
+
+// Where a line is.
+pub enum Place {
+    Unknown,
+    Home,
+    // In a country, known by its MCC.
+    Abroad(u64),
+}
+
+// Whether there is a record among the first n.
+fn has_plmns(list: [Preferred; 16], n: usize) -> bool
+    ensures { λ r. ⌜ r ≡ hasPlmns (take n list) ⌝ }
+{
+    0 < n
+}
+
+// Whether a configuration has a `node` or a `plmn` record.
+pub fn is_provisioned(config: Config) -> bool
+    ensures { λ r. ⌜ r ≡ provisioned (settingsIn config) ⌝ }
+{
+    let node = config.node;
+    let plmns = config.plmns;
+    match node {
+        Node::None => has_plmns(plmns, config.plmn_count),
+        Node::Name { at: _, length: _ } => true,
+        Node::Address(_) => true,
+    }
+}
+
+// Whether a PLMN is on the forbidden list.
+pub fn is_barred(config: Config, p: Plmn) -> bool
+    requires { ⌜ Counted config ⌝ }
+    ensures { λ r. ⌜ r ≡ barred (settingsIn config) p ⌝ }
+{
+    let bars = config.bars;
+    has_preferred(bars, config.bar_count, p)
+}
+
+// Whether a PLMN has a `plmn` record.
+pub fn is_preferred(config: Config, p: Plmn) -> bool
+    requires { ⌜ Counted config ⌝ }
+    ensures { λ r. ⌜ r ≡ preferred (settingsIn config) p ⌝ }
+{
+    let plmns = config.plmns;
+    has_preferred(plmns, config.plmn_count, p)
+}
+
+// Whether a PLMN has the visited MCC.
+fn is_visited(place: Place, p: Plmn) -> bool
+    ensures { λ r. ⌜ r ≡ visited place p ⌝ }
+{
+    match place {
+        Place::Unknown => false,
+        Place::Home => false,
+        Place::Abroad(mcc) => p.mcc == mcc,
+    }
+}
+
+// Whether a PLMN stands in a list of networks.
+pub fn is_listed(networks: &[u8], p: Plmn) -> bool
+    ensures { λ r. ⌜ r ≡ among p (networksIn (now (networks .entry))) ⌝ }
+{
+    let n = networks.len() / 4;
+    let mut i = 0;
+    while i < n {
+        if same_plmn(p, network_at(networks, i)) {
+            return true;
+        }
+        i += 1;
+    }
+    false
+}
+
+// Whether a country answer offers a network.
+fn is_offered(networks: &[u8], place: Place, p: Plmn) -> bool
+    ensures { λ r. ⌜ r ≡ offered (networksIn (now (networks .entry))) place p ⌝ }
+{
+    if networks.len() < 4 {
+        return is_visited(place, p);
+    }
+    is_listed(networks, p)
+}
+
+// Whether the network of a `plmn` record is offered and not barred.
+fn is_eligible(config: Config, networks: &[u8], place: Place, x: Preferred) -> bool
+    requires { ⌜ Counted config ⌝ }
+    ensures { λ r. ⌜ r ≡ eligible (settingsIn config) (networksIn (now (networks .entry))) place x ⌝ }
+{
+    if !is_offered(networks, place, x.plmn) {
+        return false;
+    }
+    !is_barred(config, x.plmn)
+}
+
+// The better of a record and the best of those behind it, where one was found.
+fn better_of(x: Preferred, found: bool, top: Preferred) -> Preferred
+    ensures { λ r. ⌜ r ≡ better x (whereFound found top) ⌝ }
+{
+    if !found {
+        return x;
+    }
+    if top.priority < x.priority {
+        return top;
+    }
+    x
+}
+
+// The network of best priority among the first n records that are eligible.
+fn best_of(
+    list: [Preferred; 16],
+    n: usize,
+    config: Config,
+    networks: &[u8],
+    place: Place,
+) -> MaybePlmn
+    requires { ⌜ (n ≤ 16) × Counted config ⌝ }
+    ensures { λ r. ⌜ plmnOption r ≡ networkOf (best (only (eligible (settingsIn config) (networksIn (now (networks .entry))) place) (take n list))) ⌝ }
+{
+    let mut top = list[0];
+    let mut found = false;
+    let mut i = n;
+    while 0 < i {
+        i -= 1;
+        let x = list[i];
+        if is_eligible(config, networks, place, x) {
+            top = better_of(x, found, top);
+            found = true;
+        }
+    }
+    if found {
+        let p = top.plmn;
+        return MaybePlmn::Is(p);
+    }
+    MaybePlmn::None
+}
+
+// The network of best priority among those that a country answer offers.
+pub fn ranked(config: Config, networks: &[u8], place: Place) -> MaybePlmn
+    requires { ⌜ Counted config ⌝ }
+    ensures { λ r. ⌜ plmnOption r ≡ ranked (settingsIn config) (networksIn (now (networks .entry))) place ⌝ }
+{
+    let plmns = config.plmns;
+    best_of(plmns, config.plmn_count, config, networks, place)
+}
+
+// The pick where no priority decides.
+pub fn unranked(config: Config, networks: &[u8]) -> MaybePlmn
+    requires { ⌜ Counted config ⌝ }
+    ensures { λ r. ⌜ plmnOption r ≡ unranked (settingsIn config) (networksIn (now (networks .entry))) ⌝ }
+{
+    let n = networks.len() / 4;
+    let mut i = 0;
+    while i < n {
+        let p = network_at(networks, i);
+        if !is_barred(config, p) {
+            return MaybePlmn::Is(p);
+        }
+        i += 1;
+    }
+    MaybePlmn::None
+}
