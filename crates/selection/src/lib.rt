@@ -1,0 +1,198 @@
+// Choosing a network and a gateway, up to the name that is asked: S1 to S4.
+use address::Address;
+use config::Config;
+use config::Node;
+use network::MaybePlmn;
+use network::Plmn;
+use network::same_plmn;
+use preference::Place;
+use preference::is_barred;
+use preference::is_listed;
+use preference::is_preferred;
+use preference::is_provisioned;
+use preference::ranked;
+use preference::unranked;
+ghost use mathlib.Core.Path.{_≡_};
+ghost use Rattle.network.specs.Plmn.{plmnOption};
+ghost use Rattle.config.specs.Settings.{settingsIn};
+ghost use Rattle.lists.specs.Lists.{networksIn};
+ghost use Rattle.preference.specs.Branch.{Counted};
+ghost use Rattle.selection.specs.Selection.{abroad, answered, askOr, atHome, counting, country, direct, homeAbroad, ifListed, oneOrMore, start};
+ghost use Rattle.preference.specs.Preference.{ranked};
+ghost use Rattle.selection.specs.Stops.{StopsExactly};
+
+// What start gives: where the line is, the PLMN that it is registered to, and the local IP version, 4 or 6.
+pub struct Facts {
+    pub place: Place,
+    pub registered: MaybePlmn,
+    pub version: u64,
+}
+
+// What is done next.
+pub enum Choice {
+    // Selection stops, and the number says where.
+    Stop(u64),
+    // The visited-country name of an MCC is asked.
+    Country(u64),
+    // The name that stands in the configuration text is asked.
+    Text { at: usize, length: usize },
+    // The operator name of a network is asked.
+    Network(Plmn),
+    // An address is treated as an answer list of one.
+    Address(Address),
+}
+
+// Whether a place is abroad with the home MCC.
+pub fn is_home_abroad(config: Config, place: Place) -> bool
+    ensures { λ r. ⌜ r ≡ homeAbroad (settingsIn config) place ⌝ }
+{
+    match place {
+        Place::Unknown => false,
+        Place::Home => false,
+        Place::Abroad(mcc) => mcc == config.home.mcc,
+    }
+}
+
+// The registered PLMN, where it is not the home PLMN.
+fn counting(config: Config, registered: MaybePlmn) -> MaybePlmn
+    ensures { λ r. ⌜ plmnOption r ≡ counting (settingsIn config) (plmnOption registered) ⌝ }
+{
+    match registered {
+        MaybePlmn::Is(p) => {
+            if same_plmn(p, config.home) {
+                MaybePlmn::None
+            } else {
+                MaybePlmn::Is(p)
+            }
+        }
+        MaybePlmn::None => MaybePlmn::None,
+    }
+}
+
+// S2: the `node` record decides, or the home PLMN.
+fn at_home(config: Config) -> Choice
+    ensures { λ r. ⌜ r ≡ atHome (settingsIn config) ⌝ }
+{
+    let node = config.node;
+    let home = config.home;
+    match node {
+        Node::None => Choice::Network(home),
+        Node::Name { at, length } => Choice::Text { at, length },
+        Node::Address(a) => Choice::Address(a),
+    }
+}
+
+// S3: whether the name of a registered PLMN is asked at once.
+fn is_direct(config: Config, p: Plmn) -> bool
+    requires { ⌜ Counted config ⌝ }
+    ensures { λ r. ⌜ r ≡ direct (settingsIn config) p ⌝ }
+{
+    if !is_provisioned(config) {
+        return false;
+    }
+    if is_barred(config, p) {
+        return false;
+    }
+    is_preferred(config, p)
+}
+
+// S3, and S4 up to its question.
+fn abroad(config: Config, registered: MaybePlmn, mcc: u64) -> Choice
+    requires { ⌜ Counted config ⌝ }
+    ensures { λ r. ⌜ r ≡ abroad (settingsIn config) (plmnOption registered) mcc ⌝ }
+{
+    match registered {
+        MaybePlmn::Is(p) => {
+            if is_direct(config, p) {
+                Choice::Network(p)
+            } else {
+                Choice::Country(mcc)
+            }
+        }
+        MaybePlmn::None => Choice::Country(mcc),
+    }
+}
+
+// What start comes to.
+pub fn start(config: Config, facts: Facts) -> Choice
+    requires { ⌜ Counted config ⌝ }
+    ensures { λ r. ⌜ r ≡ start (settingsIn config) facts ⌝ }
+{
+    let place = facts.place;
+    let registered = facts.registered;
+    match place {
+        Place::Unknown => Choice::Stop(1),
+        Place::Home => at_home(config),
+        Place::Abroad(mcc) => abroad(config, counting(config, registered), mcc),
+    }
+}
+
+// The registered PLMN, where it is listed and not barred.
+fn if_listed(config: Config, registered: MaybePlmn, networks: &[u8]) -> MaybePlmn
+    requires { ⌜ Counted config ⌝ }
+    ensures { λ r. ⌜ plmnOption r ≡ ifListed (settingsIn config) (plmnOption registered) (networksIn (now (networks .entry))) ⌝ }
+{
+    let MaybePlmn::Is(plmn) = registered else {
+        return MaybePlmn::None;
+    };
+    if !is_listed(networks, plmn) {
+        return MaybePlmn::None;
+    }
+    if is_barred(config, plmn) {
+        return MaybePlmn::None;
+    }
+    MaybePlmn::Is(plmn)
+}
+
+// The name of a network is asked, where there is one.
+fn ask_or(network: MaybePlmn, other: Choice) -> Choice
+    ensures { λ r. ⌜ r ≡ askOr (plmnOption network) other ⌝ }
+{
+    match network {
+        MaybePlmn::Is(p) => Choice::Network(p),
+        MaybePlmn::None => other,
+    }
+}
+
+// S4 where one or more networks are listed.
+fn one_or_more(config: Config, facts: Facts, networks: &[u8]) -> Choice
+    requires { ⌜ Counted config ⌝ }
+    ensures { λ r. ⌜ r ≡ oneOrMore (settingsIn config) facts (networksIn (now (networks .entry))) ⌝ }
+{
+    let place = facts.place;
+    let registered = facts.registered;
+    let first = ask_or(unranked(config, networks), Choice::Stop(3));
+    let best = ask_or(ranked(config, networks, place), first);
+    ask_or(
+        if_listed(config, counting(config, registered), networks),
+        best,
+    )
+}
+
+// S4 where no network is listed.
+fn none_listed(config: Config, place: Place, networks: &[u8]) -> Choice
+    requires { ⌜ Counted config ⌝ }
+    ensures { λ r. ⌜ r ≡ askOr (ranked (settingsIn config) (networksIn (now (networks .entry))) place) (atHome (settingsIn config)) ⌝ }
+{
+    ask_or(ranked(config, networks, place), at_home(config))
+}
+
+// What the country answer comes to.
+pub fn country(config: Config, facts: Facts, replied: bool, networks: &[u8]) -> Choice
+    requires { ⌜ Counted config ⌝ }
+    ensures { λ r. ⌜ r ≡ country (settingsIn config) facts (answered replied (networksIn (now (networks .entry)))) ⌝ }
+{
+    if !replied {
+        return Choice::Stop(2);
+    }
+    if networks.len() < 4 {
+        let place = facts.place;
+        return none_listed(config, place, networks);
+    }
+    one_or_more(config, facts, networks)
+}
+
+// Does nothing; its promise is the claim `stops-exactly`.
+pub fn stops()
+    ensures { λ _. ⌜ StopsExactly ⌝ }
+{}
