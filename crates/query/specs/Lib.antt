@@ -1,0 +1,2 @@
+-- The name that is asked of DNS.
+pub mod Query
