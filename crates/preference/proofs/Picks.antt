@@ -19,7 +19,7 @@ use Rattle.config.specs.Settings.{plmnIn}
 use Rattle.lists.specs.Lists.{networkAt, networksIn}
 use Rattle.preference.specs.Branch.{whereFound}
 use Rattle.preference.specs.Preference.{better, best, hasPlmns, networkOf, visited, offered}
-use Rattle.preference.specs.declared.Place.{Place}
+use Rattle.place.specs.declared.Place.{Place}
 
 -- networks in a row, from the one at i on
 module _ (f : ℕ → Plmn) (i n : ℕ) (p : Plmn) where

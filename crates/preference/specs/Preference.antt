@@ -11,8 +11,8 @@ use Rattle.entry.specs.declared.field.Preferred.{Preferred}
 use Rattle.config.specs.Settings.{plmnIn, Settings}
 use Rattle.config.specs.declared.Node.{Node}
 use Rattle.config.specs.declared.Node.the-variants as Node
-use Rattle.preference.specs.declared.Place.{Place}
-use Rattle.preference.specs.declared.Place.the-variants.{Unknown, Home, Abroad}
+use Rattle.place.specs.declared.Place.{Place}
+use Rattle.place.specs.declared.Place.the-variants.{Unknown, Home, Abroad}
 
 unfoldable pub hasNode : Node → Bool
 hasNode Node.None = false

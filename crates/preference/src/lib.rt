@@ -7,6 +7,7 @@ use lists::network_at;
 use network::MaybePlmn;
 use network::Plmn;
 use network::same_plmn;
+use place::Place;
 ghost use mathlib.Core.Path.{_≡_};
 ghost use Prim.Native.Nat.{_≤_};
 ghost use lib.ListN.{take};
@@ -16,14 +17,6 @@ ghost use Rattle.config.specs.Settings.{settingsIn};
 ghost use Rattle.lists.specs.Lists.{networksIn};
 ghost use Rattle.preference.specs.Branch.{whereFound, Counted};
 ghost use Rattle.preference.specs.Preference.{barred, best, better, eligible, hasPlmns, networkOf, offered, preferred, provisioned, ranked, unranked, visited};
-
-// Where a line is.
-pub enum Place {
-    Unknown,
-    Home,
-    // In a country, known by its MCC.
-    Abroad(u64),
-}
 
 // Whether there is a record among the first n.
 fn has_plmns(list: [Preferred; 16], n: usize) -> bool

@@ -8,7 +8,7 @@ use Rattle.network.specs.declared.Plmn.{Plmn}
 use Rattle.config.specs.Settings.{Settings}
 use Rattle.preference.specs.Preference.{provisioned, barred, unbarred, preferred, ranked}
 use Rattle.selection.specs.Selection.{askOr, atHome, direct, ifListed, country, noneListed, oneOrMore}
-use Rattle.selection.specs.declared.Facts.{Facts}
+use Rattle.place.specs.declared.Facts.{Facts}
 
 module _ (s : Settings) (p : Plmn) where
   -- S3

@@ -19,14 +19,14 @@ use Rattle.config.specs.Settings.{plmnIn, Settings}
 use Rattle.config.specs.declared.Node.{Node}
 use Rattle.config.specs.declared.Node.the-variants as Node
 use Rattle.preference.specs.Preference.{unbarred, offered, eligible, best, networkOf, ranked, unranked}
-use Rattle.preference.specs.declared.Place.{Place}
-use Rattle.preference.specs.declared.Place.the-variants.{Unknown, Home, Abroad}
+use Rattle.place.specs.declared.Place.{Place}
+use Rattle.place.specs.declared.Place.the-variants.{Unknown, Home, Abroad}
 use Rattle.gateway.specs.Gateway.{foundAt, choose}
 use Rattle.selection.specs.Selection.{registered, byNode, atHome, direct, abroad, startAt, start, askOr, ifListed, noneListed, oneOrMore, country}
 use Rattle.selection.specs.Stops.{homeStep, startStep, lastStep, countryStep, addresses, networks, Ends, stopFound, stopOf, Exactly, StopsExactly}
 use Rattle.selection.specs.declared.Choice.{Choice}
 use Rattle.selection.specs.declared.Choice.the-variants.{Stop, Country, Network}
-use Rattle.selection.specs.declared.Facts.{Facts}
+use Rattle.place.specs.declared.Facts.{Facts}
 
 -- a number that is there
 valued : Option ℕ → Bool

@@ -10,11 +10,11 @@ use Rattle.config.specs.Settings.{Settings}
 use Rattle.config.specs.declared.Node.{Node}
 use Rattle.config.specs.declared.Node.the-variants as Node
 use Rattle.preference.specs.Preference.{provisioned, preferred, unbarred, ranked, unranked}
-use Rattle.preference.specs.declared.Place.{Place}
-use Rattle.preference.specs.declared.Place.the-variants.{Unknown, Home, Abroad}
+use Rattle.place.specs.declared.Place.{Place}
+use Rattle.place.specs.declared.Place.the-variants.{Unknown, Home, Abroad}
 use Rattle.selection.specs.declared.Choice.{Choice}
 use Rattle.selection.specs.declared.Choice.the-variants.{Stop, Country, Text, Network, Address}
-use Rattle.selection.specs.declared.Facts.{Facts}
+use Rattle.place.specs.declared.Facts.{Facts}
 
 -- abroad with the home MCC of the lent text, which is refused by 8
 unfoldable pub homeAbroad : Settings → Place → Bool

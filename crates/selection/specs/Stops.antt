@@ -14,8 +14,8 @@ use Rattle.config.specs.Settings.{Settings}
 use Rattle.config.specs.declared.Node.{Node}
 use Rattle.config.specs.declared.Node.the-variants as Node
 use Rattle.preference.specs.Preference.{unbarred, eligible}
-use Rattle.preference.specs.declared.Place.{Place}
-use Rattle.preference.specs.declared.Place.the-variants.{Unknown, Home, Abroad}
+use Rattle.place.specs.declared.Place.{Place}
+use Rattle.place.specs.declared.Place.the-variants.{Unknown, Home, Abroad}
 use Rattle.gateway.specs.Gateway.{choose}
 use Rattle.gateway.specs.declared.Found.{Found}
 use Rattle.gateway.specs.declared.Found.the-variants.{Chosen, Nothing}
@@ -23,7 +23,7 @@ use Rattle.selection.specs.Selection.{start, country}
 use Rattle.selection.specs.declared.Choice.{Choice}
 use Rattle.selection.specs.declared.Choice.the-variants.{Stop, Country, Text, Network}
 use Rattle.selection.specs.declared.Choice.the-variants as Choice
-use Rattle.selection.specs.declared.Facts.{Facts}
+use Rattle.place.specs.declared.Facts.{Facts}
 
 -- the step that a call reaches: a name is asked, or it may stop at one of four
 pub data Step : Type 0 where

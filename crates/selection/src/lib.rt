@@ -5,7 +5,8 @@ use config::Node;
 use network::MaybePlmn;
 use network::Plmn;
 use network::same_plmn;
-use preference::Place;
+use place::Facts;
+use place::Place;
 use preference::is_barred;
 use preference::is_listed;
 use preference::is_preferred;
@@ -20,13 +21,6 @@ ghost use Rattle.preference.specs.Branch.{Counted};
 ghost use Rattle.selection.specs.Selection.{abroad, answered, askOr, atHome, counting, country, direct, homeAbroad, ifListed, oneOrMore, start};
 ghost use Rattle.preference.specs.Preference.{ranked};
 ghost use Rattle.selection.specs.Stops.{StopsExactly};
-
-// What start gives: where the line is, the PLMN that it is registered to, and the local IP version, 4 or 6.
-pub struct Facts {
-    pub place: Place,
-    pub registered: MaybePlmn,
-    pub version: u64,
-}
 
 // What is done next.
 pub enum Choice {

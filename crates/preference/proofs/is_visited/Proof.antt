@@ -1,7 +1,7 @@
 -- `preference::is_visited` meets its contract: the place picks the case.
 use mathlib.Core.Path.{sym, ap}
 use borrow.Author.Needs.{needs}
-use Rattle.preference.specs.declared.Place.{Place}
+use Rattle.place.specs.declared.Place.{Place}
 use Rattle.preference.specs.Preference.{visited}
 use Rattle.preference.proofs.is_visited.Statement.{statement}
 use Rattle.preference.proofs.is_visited.Tie as tie
