@@ -8,7 +8,8 @@ use Rattle.octets.specs.Row.{row, place}
 use Rattle.address.specs.Address.{permitted, stands, sameAddress, versionOf}
 use Rattle.address.specs.declared.Address.{Address}
 use Rattle.address.specs.declared.Address.the-variants.{V4}
-use Rattle.lists.specs.Lists.{addressAt, addressesIn, versionAt}
+use Rattle.addresses.specs.Addresses.{addressFrom, versionFrom}
+use Rattle.lists.specs.Lists.{addressAt, addressesIn}
 use Rattle.gateway.specs.declared.Found.{Found}
 use Rattle.gateway.specs.declared.Found.the-variants.{Chosen, Nothing}
 use Rattle.gateway.specs.Gateway.{choose, foundAt}
@@ -48,5 +49,5 @@ unfoldable pub said : Example → Found
 said e = e .says
 
 pub computed : map found examples ≡ map said examples
-unfolding examples found said dotted choose foundAt addressesIn addressAt versionAt row place permitted stands sameAddress versionOf zeros field number numberFrom part
+unfolding examples found said dotted choose foundAt addressesIn addressAt addressFrom versionFrom row place permitted stands sameAddress versionOf zeros field number numberFrom part
 computed = refl

@@ -1,16 +1,15 @@
 -- Lent lists, entry by entry: a network has 4 octets, an address 17.
 use Prim.Native.Nat.{ℕ, _+_, _*_, _/_, _%_}
-use mathlib.Core.Bool.{Bool, cond, _&&_, _||_}
+use mathlib.Core.Bool.{Bool, _&&_}
 use mathlib.Core.List.{List}
 use lib.Dec.{leb, eqb}
 use lib.ListN.{length}
 use Rattle.octets.specs.Digits.{field}
-use Rattle.octets.specs.Part.{part, zeros, same}
 use Rattle.octets.specs.Row.{row}
 use Rattle.octets.specs.Search.{all}
 use Rattle.network.specs.declared.Plmn.{Plmn}
 use Rattle.address.specs.declared.Address.{Address}
-use Rattle.address.specs.declared.Address.the-variants.{V4, V6}
+use Rattle.addresses.specs.Addresses.{addressFrom, isAddress}
 
 -- at most 16 whole entries of a size
 unfoldable pub whole : ℕ → List ℕ → Bool
@@ -31,16 +30,12 @@ networksFit l = whole 4 l && all (length l / 4) (networkFits l)
 unfoldable pub networksIn : List ℕ → List Plmn
 networksIn l = row (networkAt l) 0 (length l / 4)
 
--- an address is its version, 4 or 6, and 16 octets, of which version 4 has 4
-unfoldable pub versionAt : List ℕ → ℕ → ℕ
-versionAt l i = field l (17 * i) 1
-
+-- an address is its version and 16 octets
 unfoldable pub addressAt : List ℕ → ℕ → Address
-addressAt l i = cond (eqb (versionAt l i) 4) (V4 (field l (17 * i + 1) 4)) (V6 (field l (17 * i + 1) 8) (field l (17 * i + 9) 8))
+addressAt l i = addressFrom l (17 * i)
 
--- behind version 4's octets stand zeros
 unfoldable pub addressFits : List ℕ → ℕ → Bool
-addressFits l i = eqb (versionAt l i) 6 || eqb (versionAt l i) 4 && same (part l (17 * i + 5) 12) (zeros 12)
+addressFits l i = isAddress l (17 * i)
 
 -- a list of addresses that is not refused by 8
 unfoldable pub addressesFit : List ℕ → Bool

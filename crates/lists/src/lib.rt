@@ -1,9 +1,9 @@
 // Lent lists of networks and of addresses, read entry by entry.
 use address::Address;
+use addresses::is_address;
+use addresses::read_address;
 use network::Plmn;
 use octets::number::get;
-use octets::slice::part;
-use octets::slice::same;
 ghost use mathlib.Core.Path.{_≡_};
 ghost use Prim.Native.Nat.{_+_, _*_, _≤_, _<_};
 ghost use lib.ListN.{length};
@@ -63,27 +63,15 @@ pub fn address_at(list: &[u8], i: usize) -> Address
     requires { ⌜ 17 * i + 17 ≤ length (now list) ⌝ }
     ensures { λ r. ⌜ r ≡ addressAt (now (list .entry)) i ⌝ }
 {
-    let at = 17 * i;
-    if get(list, at, 1) == 4 {
-        return Address::V4(get(list, at + 1, 4));
-    }
-    Address::V6(get(list, at + 1, 8), get(list, at + 9, 8))
+    read_address(list, 17 * i)
 }
 
-// Whether the address at a place is of version 6, or of version 4 with zeros behind it.
+// Whether an address stands at a place.
 fn address_fits(list: &[u8], i: usize) -> bool
     requires { ⌜ 17 * i + 17 ≤ length (now list) ⌝ }
     ensures { λ r. ⌜ r ≡ addressFits (now (list .entry)) i ⌝ }
 {
-    let at = 17 * i;
-    let version = get(list, at, 1);
-    if version == 6 {
-        return true;
-    }
-    if version != 4 {
-        return false;
-    }
-    same(part(list, at + 5, 12), &[0u8; 12])
+    is_address(list, 17 * i)
 }
 
 // Whether a list is one of addresses.

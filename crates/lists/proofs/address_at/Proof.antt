@@ -1,53 +1,18 @@
--- `lists::address_at` meets its contract: the version decides how many octets are read.
+-- `lists::address_at` meets its contract: an entry has 17 octets.
 use borrow.Author.Needs.{needs}
-use Rattle.lists.specs.Lists.{versionAt}
-use Rattle.lists.proofs.Entries.{address-4, address-6}
+use Rattle.lists.specs.Lists.{addressAt}
 use Rattle.lists.proofs.address_at.Statement.{statement}
 use Rattle.lists.proofs.address_at.Tie as tie
 
-mul-at : tie.Need-mul-at
-mul-at c = search needs
+mul-read-address : tie.Need-mul-read-address
+mul-read-address c = search needs
 
-get-requires : tie.Need-get-requires
-get-requires c κs = search needs
-
-add-get : tie.Need-add-get
-add-get c = search needs
-
-get-requires-2 : tie.Need-get-requires-2
-get-requires-2 c κs = search needs
+read-address-requires : tie.Need-read-address-requires
+read-address-requires c κs = search needs
 
 returns : tie.Need-returns
-unfolding versionAt
-returns c = address-4 _ _ (c .before .before .get .result) (c .before .before .get .ensures .0) (c .before .if1 .taken) _ (c .get2 .ensures .0)
-
-add-get-2 : tie.Need-add-get-2
-add-get-2 c = search needs
-
-get-requires-3 : tie.Need-get-requires-3
-get-requires-3 c κs = search needs
-
-add-get-3 : tie.Need-add-get-3
-add-get-3 c = search needs
-
-get-requires-4 : tie.Need-get-requires-4
-get-requires-4 c κs = search needs
-
-returns-2 : tie.Need-returns-2
-unfolding versionAt
-returns-2 c = address-6 _ _ (c .before .before .before .get .result) (c .before .before .before .get .ensures .0) (c .before .before .if1 .left) _ _ (c .before .get3 .ensures .0) (c .get4 .ensures .0)
+unfolding addressAt
+returns c = c .read-address .ensures
 
 pub address-at-spec : {M : Type 1} → statement M
-address-at-spec =
-    tie.close
-    (tie.spec
-    mul-at
-    get-requires
-    add-get
-    get-requires-2
-    returns
-    add-get-2
-    get-requires-3
-    add-get-3
-    get-requires-4
-    returns-2)
+address-at-spec = tie.close (tie.spec mul-read-address read-address-requires returns)

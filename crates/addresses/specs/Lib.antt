@@ -1,0 +1,2 @@
+-- Addresses in octets.
+pub mod Addresses
