@@ -6,7 +6,7 @@ use mathlib.Core.Path.{_≡_, sym, _∙_, subst}
 use lib.Dec.{eqb}
 use borrow.Author.Tests.{eq-eqb, ne-eqb}
 use Rattle.octets.specs.Digits.{field}
-use Rattle.octets.specs.Part.{part, zeros, same}
+use Rattle.octets.specs.Part.{zerosAt}
 use Rattle.address.specs.declared.Address.the-variants.{V4, V6}
 use Rattle.addresses.specs.Addresses.{addressFrom, isAddress, versionFrom}
 
@@ -31,6 +31,6 @@ module _ (l : List ℕ) (at v : ℕ) (of : v ≡ versionFrom l at) where
     unfolding isAddress
     no-version h = rw (other, ne-eqb (versionFrom l at) 4 (subst (λ (k : ℕ). k ≡ 4 → ⊥) of h))
 
-    pub version-4 : v ≡ 4 → same (part l (at + 5) 12) (zeros 12) ≡ isAddress l at
+    pub version-4 : v ≡ 4 → zerosAt l (at + 5) 12 ≡ isAddress l at
     unfolding isAddress
     version-4 e = rw (other, eq-eqb (versionFrom l at) 4 (sym of ∙ e))

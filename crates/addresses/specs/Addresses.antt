@@ -4,7 +4,7 @@ use mathlib.Core.Bool.{Bool, cond, _&&_, _||_}
 use mathlib.Core.List.{List, _++_}
 use lib.Dec.{eqb}
 use Rattle.octets.specs.Digits.{be, field}
-use Rattle.octets.specs.Part.{part, zeros, same}
+use Rattle.octets.specs.Part.{zeros, zerosAt}
 use Rattle.address.specs.declared.Address.{Address}
 use Rattle.address.specs.declared.Address.the-variants.{V4, V6}
 
@@ -22,4 +22,4 @@ addressFrom l at = cond (eqb (versionFrom l at) 4) (V4 (field l (at + 1) 4)) (V6
 
 -- an address stands at a place: a version that there is, and zeros behind version 4
 unfoldable pub isAddress : List ℕ → ℕ → Bool
-isAddress l at = eqb (versionFrom l at) 6 || eqb (versionFrom l at) 4 && same (part l (at + 5) 12) (zeros 12)
+isAddress l at = eqb (versionFrom l at) 6 || eqb (versionFrom l at) 4 && zerosAt l (at + 5) 12

@@ -1,12 +1,13 @@
 // Addresses in octets.
 use address::Address;
 use octets::number::get;
-use octets::slice::part;
-use octets::slice::same;
+use octets::number::put;
+use octets::slice::zeros_at;
 ghost use mathlib.Core.Path.{_≡_};
 ghost use Prim.Native.Nat.{_+_, _≤_};
 ghost use lib.ListN.{length};
-ghost use Rattle.addresses.specs.Addresses.{addressFrom, isAddress};
+ghost use Rattle.octets.specs.Part.{Wrote};
+ghost use Rattle.addresses.specs.Addresses.{addressFrom, addressOctets, isAddress};
 
 // The address at a place.
 pub fn read_address(list: &[u8], at: usize) -> Address
@@ -31,5 +32,24 @@ pub fn is_address(list: &[u8], at: usize) -> bool
     if version != 4 {
         return false;
     }
-    same(part(list, at + 5, 12), &[0u8; 12])
+    zeros_at(list, at + 5, 12)
+}
+
+// Stores an address at a place.
+pub fn put_address(list: &mut [u8], at: usize, a: Address)
+    requires { ⌜ at + 17 ≤ length (now list) ⌝ }
+    ensures { λ _. ⌜ Wrote (now (list .entry)) at (addressOctets a) (now (list .exit)) ⌝ }
+{
+    match a {
+        Address::V4(x) => {
+            put(list, at, 1, 4);
+            put(list, at + 1, 4, x);
+            put(list, at + 5, 12, 0);
+        }
+        Address::V6(high, low) => {
+            put(list, at, 1, 6);
+            put(list, at + 1, 8, high);
+            put(list, at + 9, 8, low);
+        }
+    }
 }

@@ -26,6 +26,10 @@ same [] (y ∷ ys) = false
 same (x ∷ xs) [] = false
 same (x ∷ xs) (y ∷ ys) = eqb x y && same xs ys
 
+-- n zeros stand at a place
+unfoldable pub zerosAt : List ℕ → ℕ → ℕ → Bool
+zerosAt l at n = same (part l at n) (zeros n)
+
 -- the octet k places on from a place is x
 unfoldable pub holds : List ℕ → ℕ → ℕ → ℕ → Bool
 holds l from x k = eqb (getD l (from + k) 0) x

@@ -2,7 +2,7 @@
 ghost use mathlib.Core.Path.{_≡_};
 ghost use Prim.Native.Nat.{_+_, _-_, _≤_};
 ghost use lib.ListN.{length};
-ghost use Rattle.octets.specs.Part.{holds, part, same, zeros, Wrote};
+ghost use Rattle.octets.specs.Part.{holds, part, same, zeros, zerosAt, Wrote};
 ghost use Rattle.octets.specs.Search.{least};
 
 // Fills a slice with zeros.
@@ -38,6 +38,22 @@ pub fn same(a: &[u8], b: &[u8]) -> bool
     let mut i = 0;
     while i < a.len() {
         if a[i] != b[i] {
+            return false;
+        }
+        i += 1;
+    }
+    true
+}
+
+// Whether the n octets from `at` are zeros.
+pub fn zeros_at(s: &[u8], at: usize, n: usize) -> bool
+    requires { ⌜ at + n ≤ length (now s) ⌝ }
+    ensures { λ r. ⌜ r ≡ zerosAt (now (s .entry)) at n ⌝ }
+{
+    let end = at + n;
+    let mut i = at;
+    while i < end {
+        if s[i] != 0 {
             return false;
         }
         i += 1;
