@@ -7,11 +7,9 @@ leaves.py --check    exits 1 where one of the two differs from what would be wri
 A request is one line, its fields parted by one tab; its answer is one line. Numbers are decimal, of 1 to 16 digits. Octets are pairs of
 lower-case hex digits, each optionally followed by `*` and exactly four decimal digits, the count of its repeats; at most 4,096 in all.
 """
-import pathlib
 import sys
 
-ROOT = pathlib.Path(__file__).resolve().parent.parent
-FILES = {name: ROOT / 'crates' / 'decode' / name for name in ('stdin', 'stdout')}
+from requests import asserted, operator_name, run, text, visited_name
 
 ROOM = 3090
 MOST_NAS = 2048
@@ -28,14 +26,6 @@ def timer(octet):
     if unit == 7:
         return 'deactivated'
     return f'seconds {count * UNITS[unit]}' if count else 'none'
-
-
-def operator_name(mcc, mnc):
-    return f'n3iwf.5gc.mnc{mnc:03}.mcc{mcc:03}.pub.3gppnetwork.org'
-
-
-def visited_name(mcc):
-    return f'n3iwf.5gc.mcc{mcc:03}.visited-country.pub.3gppnetwork.org'
 
 
 def parameter(block, place):
@@ -137,17 +127,6 @@ def request(identifier, nas, extension=(), spare=0):
 
 # Requests and answers as text.
 
-def text(octets):
-    out, i = '', 0
-    while i < len(octets):
-        n = 1
-        while i + n < len(octets) and octets[i + n] == octets[i]:
-            n += 1
-        out += f'{octets[i]:02x}*{n:04}' if n > 4 else f'{octets[i]:02x}' * n
-        i += n
-    return out
-
-
 def timer_case(octet):
     return f'timer\t{octet:02x}', timer(octet)
 
@@ -198,7 +177,7 @@ def block_case(block):
 def examples():
     start = bytes.fromhex('01 07 00 0E FE 00 28 AF 00 00 00 03 01 00')
     later = bytes.fromhex('02 07 00 13 FE 00 28 AF 00 00 00 03 02 00 00 00 00 01 7E')
-    pairs = [
+    return asserted([
         (timer_case(0x61), ('timer\t61', 'seconds 2')),
         (timer_case(0x00), ('timer\t00', 'none')),
         (timer_case(0xE0), ('timer\te0', 'deactivated')),
@@ -210,10 +189,7 @@ def examples():
          ('response\t3090\t7\t\t7e', 'written 19 02070013fe0028af000000030200000000017e')),
         (packet_case(later), ('packet\t02070013fe0028af000000030200000000017e', 'nas-response 7 16 0 18 1 7e')),
         (packet_case(bytes.fromhex('03 07 00 04')), ('packet\t03070004', 'success 7')),
-    ]
-    for made, written in pairs:
-        assert made == written, (made, written)
-    return [written for _, written in pairs]
+    ])
 
 
 # The cases.
@@ -413,21 +389,9 @@ def cases():
 
 
 def main(arguments):
-    if arguments not in ([], ['--check']):
-        sys.exit(__doc__)
     pairs = cases()
-    made = {name: ''.join(pair[k] + '\n' for pair in pairs) for k, name in enumerate(FILES)}
-    assert len({asked for asked, _ in pairs}) == len(pairs)
     assert sum(asked.startswith('packet') for asked, _ in pairs) >= 200
-    assert len(made['stdin']) < 60000
-    if not arguments:
-        for name, path in FILES.items():
-            path.write_bytes(made[name].encode())
-        return 0
-    differing = [name for name, path in FILES.items() if not path.exists() or path.read_bytes() != made[name].encode()]
-    for name in differing:
-        print('differs:', FILES[name].relative_to(ROOT))
-    return 1 if differing else 0
+    return run(__doc__, 'decode', pairs, arguments)
 
 
 if __name__ == '__main__':

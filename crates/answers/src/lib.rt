@@ -21,7 +21,7 @@ pub fn put_text(s: &[u8]) {
 }
 
 // Writes a space and a number.
-fn put_number(x: u64) {
+pub fn put_number(x: u64) {
     put_text(b" ");
     io::print_decimal(STDOUT_FILENO, x);
 }
