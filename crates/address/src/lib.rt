@@ -1,6 +1,7 @@
 // IP addresses of both versions, and when one is permitted.
 ghost use mathlib.Core.Path.{_≡_};
 ghost use Prim.Native.Nat.{_≤_};
+ghost use lib.ListN.{drop};
 ghost use Rattle.address.specs.Address.{heldIn, permitted, sameAddress, stands, versionOf};
 
 // An address: 32 bits of version 4, or the two halves of 128 bits of version 6.
@@ -9,9 +10,16 @@ pub enum Address {
     V6(u64, u64),
 }
 
-// An address on hold.
+// When a hold ends.
+pub enum End {
+    At(u64),
+    Never,
+}
+
+// An address on hold until it is free again.
 pub struct Hold {
     pub address: Address,
+    pub end: End,
 }
 
 // The IP version of an address: 4 or 6.
@@ -40,12 +48,12 @@ pub fn same_address(a: Address, b: Address) -> bool
     }
 }
 
-// Whether an address stands among the first n holds.
-pub fn is_held(holds: [Hold; 8], n: usize, a: Address) -> bool
-    requires { ⌜ n ≤ 8 ⌝ }
-    ensures { λ r. ⌜ r ≡ stands a (heldIn holds n) ⌝ }
+// Whether an address stands among the first n holds, from a place on.
+pub fn is_held(holds: [Hold; 8], from: usize, n: usize, a: Address) -> bool
+    requires { ⌜ (from ≤ n) × (n ≤ 8) ⌝ }
+    ensures { λ r. ⌜ r ≡ stands a (drop from (heldIn holds n)) ⌝ }
 {
-    let mut i = 0;
+    let mut i = from;
     while i < n {
         let hold = holds[i];
         let held = hold.address;
@@ -65,5 +73,5 @@ pub fn is_permitted(a: Address, local: u64, holds: [Hold; 8], n: usize) -> bool
     if version(a) != local {
         return false;
     }
-    !is_held(holds, n, a)
+    !is_held(holds, 0, n, a)
 }

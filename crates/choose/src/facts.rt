@@ -1,5 +1,6 @@
 // What the fields of a request say of the place, the registered PLMN, the IP version and the holds.
 use address::Address;
+use address::End;
 use address::Hold;
 use fields::Said;
 use fields::decimal;
@@ -123,13 +124,17 @@ fn holds_in(list: &[u8], ok: bool) -> Held
 {
     let none = Hold {
         address: Address::V4(0),
+        end: End::Never,
     };
     let mut holds = [none; 8];
     let n = list.len() / 17;
     let mut i = 0;
     while i < n {
         let address = address_at(list, i);
-        holds[i] = Hold { address };
+        holds[i] = Hold {
+            address,
+            end: End::Never,
+        };
         i += 1;
     }
     Held {

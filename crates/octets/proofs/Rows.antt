@@ -1,14 +1,18 @@
 -- The laws of rows, by which a loop over numbers goes along a row, and of the first element that passes.
-use Prim.Native.Nat.{ℕ, zero, suc, _+_, _-_, _≤_, _<_}
-use mathlib.Core.Bool.{Bool, true, false}
-use mathlib.Core.List.{[], _∷_}
+use Prim.Native.Nat.{ℕ, zero, suc, _+_, _-_, _*_, _≤_, _<_}
+use mathlib.Core.Bool.{Bool, true, false, _&&_}
+use mathlib.Core.List.{List, [], _∷_, _++_, append-assoc, append-nil}
 use mathlib.Core.Option.{none, some}
-use mathlib.Core.Path.{_≡_, sym, ap, ap₂, _∙_}
-use native.Mathlib.Nat.{add-zero, add-suc, suc-add, sub-zero, zero-sub, suc-sub-suc}
+use mathlib.Core.Path.{_≡_, refl, sym, ap, ap₂, _∙_, subst}
+use native.Mathlib.Nat.{add-zero, add-suc, suc-add, zero-add, add-comm, mul-zero, mul-suc, sub-zero, zero-sub, suc-sub-suc}
 use native.Mathlib.Numerals.{add-one}
 use native.Mathlib.Omega.{arith}
-use lib.ListN.{drop}
-use Rattle.octets.specs.Row.{row, place, first}
+use lib.ListN.{length, getD, set, take, drop, length-append, drop-of-length-le}
+use lib.Seq.{drop-cons, getD-take, length-take-le, take-suc, take-suc-set}
+use Rattle.octets.specs.Part.{Wrote}
+use Rattle.octets.specs.Search.{allOf}
+use Rattle.octets.specs.Row.{row, place, first, joined}
+use Rattle.octets.proofs.Parts.{then}
 
 module _ {A : Type 0} (f : ℕ → A) where
   -- what is left of a row is a row
@@ -69,3 +73,64 @@ module _ {A : Type 0} (f : ℕ → A) where
     pub first-none : n ≤ i → first p (row f i (n - i)) ≡ none
     unfolding first
     first-none h = rw (row-done i n h)
+
+  -- one value more at the end of a row
+  pub row-last : (k n : ℕ) → row f k (suc n) ≡ row f k n ++ f (k + n) ∷ []
+  unfolding row
+  row-last k zero = ap (λ (i : ℕ). f i ∷ []) (sym (add-zero k))
+  row-last k (suc n) = ap (λ (l : List A). f k ∷ l) (row-last (suc k) n ∙ ap (λ (i : ℕ). row f (suc k) n ++ f i ∷ []) (suc-add k n ∙ sym (add-suc k n)))
+
+  -- a list that holds the first i values of a row, and the next one stored behind them
+  pub row-stored : (l : List A) (i : ℕ) (v : A) → i < length l → take i l ≡ row f 0 i → v ≡ f i → take (i + 1) (set l i v) ≡ row f 0 (i + 1)
+  row-stored l i v h e q =
+      ap (λ (k : ℕ). take k (set l i v)) (add-one i) ∙ take-suc-set l i v h ∙ ap₂ (λ (m : List A) (x : A). m ++ x ∷ []) e (q ∙ ap f (sym (zero-add i)))
+      ∙ sym (row-last 0 i) ∙ ap (row f 0) (sym (add-one i))
+
+-- the octets of elements that have w octets each
+module _ {A : Type 0} (g : A → List ℕ) (w : ℕ) (wide : (x : A) → length (g x) ≡ w) where
+  pub joined-append : (l m : List A) → joined g (l ++ m) ≡ joined g l ++ joined g m
+  unfolding joined
+  joined-append [] m = refl
+  joined-append (x ∷ l) m = ap (λ (r : List ℕ). g x ++ r) (joined-append l m) ∙ sym (append-assoc (g x) (joined g l) (joined g m))
+
+  pub length-joined : (l : List A) → length (joined g l) ≡ w * length l
+  unfolding joined
+  length-joined [] = sym (mul-zero w)
+  length-joined (x ∷ l) = length-append (g x) (joined g l) ∙ ap₂ (λ (a b : ℕ). a + b) (wide x) (length-joined l) ∙ add-comm w (w * length l) ∙ sym (mul-suc w (length l))
+
+  -- the first i elements are stored, and the next one right behind them
+  pub joined-stored : {b₀ b b′ : List ℕ} {at : ℕ} (l : List A) (i : ℕ) (d : A) → i < length l → Wrote b₀ at (joined g (take i l)) b
+      → Wrote b (at + w * i) (g (getD l i d)) b′ → Wrote b₀ at (joined g (take (i + 1) l)) b′
+  unfolding joined
+  joined-stored {b₀} {b} {b′} {at} l i d h done more =
+      let before : length (joined g (take i l)) ≡ w * i = length-joined (take i l) ∙ ap (λ (k : ℕ). w * k) (length-take-le i l (omega arith)) in
+      let all : joined g (take (i + 1) l) ≡ joined g (take i l) ++ g (getD l i d) =
+      ap (λ (k : ℕ). joined g (take k l)) (add-one i) ∙ ap (joined g) (take-suc l i d h) ∙ joined-append (take i l) (getD l i d ∷ [])
+      ∙ ap (λ (r : List ℕ). joined g (take i l) ++ r) (append-nil (g (getD l i d))) in
+      subst (λ (r : List ℕ). Wrote b₀ at r b′) (sym all) (then done more (ap (λ (k : ℕ). at + k) (sym before)))
+
+  -- the first i elements are all n that are asked for
+  pub joined-whole : {b b′ : List ℕ} {at i n : ℕ} (l : List A) → i ≡ n → Wrote b at (joined g (take i l)) b′ → Wrote b at (joined g (take n l)) b′
+  joined-whole {b} {b′} {at} l e w = subst (λ (k : ℕ). Wrote b at (joined g (take k l)) b′) e w
+
+-- the first n elements of a list, from the one at i on
+module _ {A : Type 0} (l : List A) (n i : ℕ) (long : n ≤ length l) where
+  pub left-more : (d : A) → i < n → drop i (take n l) ≡ getD l i d ∷ drop (i + 1) (take n l)
+  left-more d h =
+      let inside : i < length (take n l) = rw (length-take-le n l long) h in
+      drop-cons (take n l) i d inside ∙ rw (getD-take n l i d h, add-one)
+
+  pub left-none : n ≤ i → drop i (take n l) ≡ []
+  left-none h =
+      let all : length (take n l) ≤ i = rw (length-take-le n l long) h in
+      drop-of-length-le (take n l) all
+
+  -- a test of each of them
+  module _ (p : A → Bool) where
+    pub allOf-more : (d : A) → i < n → (t : Bool) → p (getD l i d) ≡ t → allOf p (drop i (take n l)) ≡ t && allOf p (drop (i + 1) (take n l))
+    unfolding allOf
+    allOf-more d h t e = rw (left-more d h, e)
+
+    pub allOf-none : n ≤ i → allOf p (drop i (take n l)) ≡ true
+    unfolding allOf
+    allOf-none h = rw (left-none h)

@@ -1,9 +1,10 @@
 -- The laws of tests over an index and of the least number that passes.
-use Prim.Native.Nat.{ℕ, zero, suc, _≤_, _<_}
+use Prim.Native.Nat.{ℕ, zero, suc, _+_, _≤_, _<_}
 use mathlib.Core.Bool.{Bool, true, false, cond, _&&_, _||_, false≢true, true≢false}
 use mathlib.Core.Logic.{⊎-elim}
-use mathlib.Core.Path.{_≡_, refl, ap, _∙_, subst}
+use mathlib.Core.Path.{_≡_, refl, sym, ap, _∙_, subst}
 use native.Mathlib.Nat.{not-suc-le-zero, le-of-suc-le-suc, eq-or-lt-of-le, le-refl, le-step, le-suc, lt-of-lt-of-le, not-le-of-lt}
+use native.Mathlib.Numerals.{add-one}
 use native.Mathlib.Omega.{arith}
 use lib.Dec.{ltb}
 use borrow.Author.Tests.{lt-ltb, le-ltb, ltb-true, ltb-false}
@@ -43,6 +44,19 @@ pub each-all : (n : ℕ) (p : ℕ → Bool) → ((k : ℕ) → k < n → p k ≡
 unfolding all
 each-all zero p h = refl
 each-all (suc n) p h = and-true (all n p) (p n) (each-all n p (λ k l. h k (le-step l))) (h n (le-refl (suc n)))
+
+-- one number more passes
+pub all-more : (n : ℕ) (p : ℕ → Bool) → all n p ≡ true → p n ≡ true → all (n + 1) p ≡ true
+unfolding all
+all-more n p h e = rw add-one (and-true (all n p) (p n) h e)
+
+-- one number fails
+pub all-fails : (n : ℕ) (p : ℕ → Bool) (i : ℕ) → i < n → p i ≡ false → all n p ≡ false
+all-fails n p i h f = decide (all n p) refl
+  where
+    decide : (t : Bool) → all n p ≡ t → all n p ≡ false
+    decide true q = absurd (true≢false (sym (all-each n p q i h) ∙ f))
+    decide false q = q
 
 -- nothing so far and the next number fails: nothing so far
 pub least-more : (n : ℕ) (p : ℕ → Bool) → least n p ≡ n → p n ≡ false → least (suc n) p ≡ suc n

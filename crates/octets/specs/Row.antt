@@ -1,7 +1,7 @@
 -- Lists of anything: values by number, the elements that pass a test, and the first of them.
 use Prim.Native.Nat.{ℕ, zero, suc}
 use mathlib.Core.Bool.{Bool, true, false, cond}
-use mathlib.Core.List.{List, [], _∷_}
+use mathlib.Core.List.{List, [], _∷_, _++_}
 use mathlib.Core.Option.{Option, none, some}
 
 module _ {A : Type 0} where
@@ -9,6 +9,11 @@ module _ {A : Type 0} where
   unfoldable pub row : (ℕ → A) → ℕ → ℕ → List A
   row f k zero = []
   row f k (suc n) = f k ∷ row f (suc k) n
+
+  -- the octets of each element, one after another
+  unfoldable pub joined : (A → List ℕ) → List A → List ℕ
+  joined f [] = []
+  joined f (x ∷ xs) = f x ++ joined f xs
 
   -- how many elements stand before the first that passes: all of them where none does
   unfoldable pub place : (A → Bool) → List A → ℕ

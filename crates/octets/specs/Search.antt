@@ -15,6 +15,7 @@ least zero p = zero
 least (suc n) p = let k = least n p in cond (ltb k n) k (cond (p n) n (suc n))
 
 -- every element of a list passes
-unfoldable pub allOf : (ℕ → Bool) → List ℕ → Bool
-allOf p [] = true
-allOf p (x ∷ xs) = p x && allOf p xs
+module _ {A : Type 0} where
+  unfoldable pub allOf : (A → Bool) → List A → Bool
+  allOf p [] = true
+  allOf p (x ∷ xs) = p x && allOf p xs

@@ -7,11 +7,10 @@ use mathlib.Core.Path.{_≡_, refl, sym, ap, _∙_, subst}
 use native.Mathlib.Nat.{suc-ne-zero}
 use native.Mathlib.Omega.{arith}
 use lib.Dec.{ltb}
-use lib.ListN.{length, getD, take, drop, drop-of-length-le}
-use lib.Seq.{drop-cons, getD-take, length-take-le}
+use lib.ListN.{length, getD, take, drop}
 use borrow.Author.Tests.{le-leb, lt-leb, lt-ltb}
 use Rattle.octets.specs.Row.{row, keep, only}
-use Rattle.octets.proofs.Rows.{row-more, row-done}
+use Rattle.octets.proofs.Rows.{row-more, row-done, left-more, left-none}
 use Rattle.network.specs.Plmn.{samePlmn, among}
 use Rattle.network.specs.declared.Plmn.{Plmn}
 use Rattle.entry.specs.declared.field.Preferred.{Preferred}
@@ -74,17 +73,15 @@ nothing = record { plmn = record { mcc = 0; mnc = 0 }; priority = 0 }
 module _ (p : Preferred → Bool) (l : List Preferred) (n i : ℕ) (long : n ≤ length l) where
   pub none-behind : n ≤ i → none ≡ best (only p (drop i (take n l)))
   unfolding best only
-  none-behind h =
-      let all : length (take n l) ≤ i = rw (length-take-le n l long) h in
-      sym (rw (drop-of-length-le (take n l) all))
+  none-behind h = sym (rw (left-none l n i long h))
 
   -- one record more
-  split : (t : Bool) → i < n → p (getD l i nothing) ≡ t → only p (drop i (take n l)) ≡ keep t (getD l i nothing) (only p (drop (suc i) (take n l)))
+  split : (t : Bool) → i < n → p (getD l i nothing) ≡ t → only p (drop i (take n l)) ≡ keep t (getD l i nothing) (only p (drop (i + 1) (take n l)))
   unfolding only
-  split t h e = rw (drop-cons (take n l) i nothing (rw (length-take-le n l long) h), getD-take n l i nothing h, e)
+  split t h e = rw (left-more l n i long nothing h, e)
 
-  module _ (k : ℕ) (next : k ≡ suc i) (inside : i < n) (o : Option Preferred) (behind : o ≡ best (only p (drop k (take n l)))) where
-    from-next : o ≡ best (only p (drop (suc i) (take n l)))
+  module _ (k : ℕ) (next : k ≡ i + 1) (inside : i < n) (o : Option Preferred) (behind : o ≡ best (only p (drop k (take n l)))) where
+    from-next : o ≡ best (only p (drop (i + 1) (take n l)))
     from-next = subst (λ (m : ℕ). o ≡ best (only p (drop m (take n l)))) next behind
 
     -- which passes

@@ -1,45 +1,35 @@
 -- `address::is_held` meets its contract. The loop's invariant: the holds that are left decide.
 use Prim.Native.Nat.{ℕ, _+_, _-_, _≤_, _<_}
 use mathlib.Core.Bool.{Bool, true, false, _||_}
-use mathlib.Core.List.{List, map}
+use mathlib.Core.List.{List}
 use mathlib.Core.Path.{_≡_, refl, sym, _∙_}
-use native.Mathlib.Numerals.{add-one}
-use lib.ListN.{length, getD, take, drop, drop-of-length-le}
-use lib.Seq.{drop-cons, getD-take, length-take-le}
+use lib.ListN.{length, getD, drop}
 use borrow.Author.Needs.{needs}
 use Rattle.address.specs.declared.Address.{Address}
-use Rattle.address.specs.declared.Address.the-variants.{V4}
 use Rattle.address.specs.declared.Hold.{Hold}
-use Rattle.address.specs.Address.{addressIn, heldIn, sameAddress, stands}
+use Rattle.address.specs.Address.{heldIn, sameAddress, stands}
+use Rattle.address.proofs.Holds.{none, held-more, held-done}
 use Rattle.address.proofs.is_held.Statement.{statement}
 use Rattle.address.proofs.is_held.Tie as tie
 
 abbrev Inv-loop : tie.InvT-loop
-Inv-loop n a holds i₀ i = (i ≤ n) × (stands a (heldIn holds n) ≡ stands a (map addressIn (drop i (take n holds))))
+Inv-loop from n a holds i₀ i = (i ≤ n) × (stands a (drop from (heldIn holds n)) ≡ stands a (drop i (heldIn holds n)))
 
 abbrev μ-loop : tie.MeasureT-loop
-μ-loop n a holds i₀ i = n - i
-
--- what stands past the end of a list
-abbrev none : Hold
-none = record { address = V4 0 }
+μ-loop from n a holds i₀ i = n - i
 
 module _ (l : List Hold) (n i : ℕ) (a : Address) (long : n ≤ length l) where
   -- the next hold decides first
-  next : i < n → (t : Bool) → sameAddress a (getD l i none .address) ≡ t
-      → stands a (map addressIn (drop i (take n l))) ≡ t || stands a (map addressIn (drop (i + 1) (take n l)))
-  unfolding stands addressIn
-  next h t e = rw (add-one, drop-cons (take n l) i none (rw (length-take-le n l long) h), getD-take n l i none h, e)
+  next : i < n → (t : Bool) → sameAddress a (getD l i none .address) ≡ t → stands a (drop i (heldIn l n)) ≡ t || stands a (drop (i + 1) (heldIn l n))
+  unfolding stands
+  next h t e = rw (held-more l n i long h, e)
 
   -- none is left
-  done : n ≤ i → stands a (map addressIn (drop i (take n l))) ≡ false
+  done : n ≤ i → stands a (drop i (heldIn l n)) ≡ false
   unfolding stands
-  done h =
-      let all : length (take n l) ≤ i = rw (length-take-le n l long) h in
-      rw (drop-of-length-le (take n l) all)
+  done h = rw (held-done l n i long h)
 
 loop-holds : tie.Need-loop-holds Inv-loop μ-loop
-unfolding heldIn
 loop-holds c = (search needs, refl)
 
 mul-hold : tie.Need-mul-hold Inv-loop μ-loop

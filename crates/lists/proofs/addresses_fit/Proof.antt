@@ -8,8 +8,9 @@ use denote.Ref.{now}
 use borrow.Author.Needs.{needs}
 use borrow.Author.Tests.{not-true, not-false}
 use Rattle.octets.specs.Search.{all}
+use Rattle.octets.proofs.Search.{all-more}
 use Rattle.lists.specs.Lists.{addressesFit, addressFits, whole}
-use Rattle.lists.proofs.Entries.{all-more, not-whole, one-fails, every-fits}
+use Rattle.lists.proofs.Entries.{not-whole, one-fails, every-fits}
 use Rattle.lists.proofs.addresses_fit.Statement.{statement}
 use Rattle.lists.proofs.addresses_fit.Tie as tie
 

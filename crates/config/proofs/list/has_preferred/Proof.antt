@@ -3,12 +3,11 @@ use Prim.Native.Nat.{ℕ, _+_, _-_, _≤_, _<_}
 use mathlib.Core.Bool.{Bool, true, false, _||_}
 use mathlib.Core.List.{List, map}
 use mathlib.Core.Path.{_≡_, refl, sym, _∙_}
-use native.Mathlib.Numerals.{add-one}
-use lib.ListN.{length, getD, take, drop, drop-of-length-le}
-use lib.Seq.{drop-cons, getD-take, length-take-le}
+use lib.ListN.{length, getD, take, drop}
 use borrow.Author.Needs.{needs}
 use Rattle.network.specs.declared.Plmn.{Plmn}
 use Rattle.entry.specs.declared.field.Preferred.{Preferred}
+use Rattle.octets.proofs.Rows.{left-more, left-none}
 use Rattle.network.specs.Plmn.{among, samePlmn}
 use Rattle.config.specs.Settings.{plmnIn}
 use Rattle.config.proofs.list.has_preferred.Statement.{statement}
@@ -29,14 +28,12 @@ module _ (l : List Preferred) (n i : ℕ) (p : Plmn) (long : n ≤ length l) whe
   next : i < n → (t : Bool) → samePlmn p (getD l i none .plmn) ≡ t
       → among p (map plmnIn (drop i (take n l))) ≡ t || among p (map plmnIn (drop (i + 1) (take n l)))
   unfolding among plmnIn
-  next h t e = rw (add-one, drop-cons (take n l) i none (rw (length-take-le n l long) h), getD-take n l i none h, e)
+  next h t e = rw (left-more l n i long none h, e)
 
   -- none is left
   done : n ≤ i → among p (map plmnIn (drop i (take n l))) ≡ false
   unfolding among
-  done h =
-      let all : length (take n l) ≤ i = rw (length-take-le n l long) h in
-      rw (drop-of-length-le (take n l) all)
+  done h = rw (left-none l n i long h)
 
 loop-holds : tie.Need-loop-holds Inv-loop μ-loop
 loop-holds c = (search needs, refl)
