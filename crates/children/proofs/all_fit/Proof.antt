@@ -1,0 +1,73 @@
+-- `children::all_fit` meets its contract. The loop's invariant: the children that are left decide.
+use Prim.Native.Nat.{_-_, _≤_}
+use mathlib.Core.Bool.{true, false}
+use mathlib.Core.Path.{_≡_, refl, sym, _∙_}
+use lib.ListN.{length, take, drop}
+use borrow.Author.Tests.{not-true, not-false}
+use borrow.Author.Needs.{needs}
+use Rattle.octets.specs.Search.{allOf}
+use Rattle.octets.proofs.Rows.{allOf-more, allOf-none}
+use Rattle.children.specs.Children.{childFits}
+use Rattle.children.proofs.Widths.{nothing}
+use Rattle.children.proofs.all_fit.Statement.{statement}
+use Rattle.children.proofs.all_fit.Tie as tie
+
+abbrev Inv-loop : tie.InvT-loop
+Inv-loop n list i₀ i = (i ≤ n) × (allOf childFits (take n list) ≡ allOf childFits (drop i (take n list)))
+
+abbrev μ-loop : tie.MeasureT-loop
+μ-loop n list i₀ i = n - i
+
+loop-holds : tie.Need-loop-holds Inv-loop μ-loop
+loop-holds c = (search needs, refl)
+
+mul-each : tie.Need-mul-each Inv-loop μ-loop
+mul-each c = search needs
+
+array-copy-out-each : tie.Need-array-copy-out-each Inv-loop μ-loop
+array-copy-out-each c = search needs
+
+child-fits-requires : tie.Need-child-fits-requires Inv-loop μ-loop
+child-fits-requires c κs = search needs
+
+returns : tie.Need-returns Inv-loop μ-loop
+returns c =
+    let a = c .before .before .before .before .before .args in
+    let at-loop = c .before .before .before .before .loop in
+    let long : a .n ≤ length (a .t1) = search needs in
+    sym (at-loop .inv .1 ∙ allOf-more (a .t1) (a .n) (at-loop .i) long childFits nothing (c .before .before .before .loop-test .taken) false (sym (c .before .child-fits .ensures) ∙ not-true _ (c .if1 .taken)))
+
+add-i : tie.Need-add-i Inv-loop μ-loop
+add-i c = search needs
+
+loop-less : tie.Need-loop-less Inv-loop μ-loop
+loop-less c = search needs
+
+loop-again : tie.Need-loop-again Inv-loop μ-loop
+loop-again c =
+    let a = c .before .before .before .before .before .args in
+    let at-loop = c .before .before .before .before .loop in
+    let long : a .n ≤ length (a .t1) = search needs in
+    (search needs, at-loop .inv .1 ∙ allOf-more (a .t1) (a .n) (at-loop .i) long childFits nothing (c .before .before .before .loop-test .taken) true (sym (c .before .child-fits .ensures) ∙ not-false _ (c .if1 .left)))
+
+returns-2 : tie.Need-returns-2 Inv-loop μ-loop
+returns-2 c =
+    let a = c .before .before .args in
+    let long : a .n ≤ length (a .t1) = search needs in
+    sym (c .before .loop .inv .1 ∙ allOf-none (a .t1) (a .n) (c .before .loop .i) long childFits (c .loop-test .left))
+
+pub all-fit-spec : {M : Type 1} → statement M
+all-fit-spec =
+    tie.close
+    (tie.spec
+    Inv-loop
+    μ-loop
+    loop-holds
+    mul-each
+    array-copy-out-each
+    child-fits-requires
+    returns
+    add-i
+    loop-less
+    loop-again
+    returns-2)

@@ -1,0 +1,44 @@
+-- A child association in 5 octets: its SPI and its session. A line has room for 8.
+use Prim.Native.Nat.{ℕ, _+_, _-_, _*_}
+use mathlib.Core.Bool.{Bool, true, false, not, _&&_, _||_}
+use mathlib.Core.List.{List, [], _∷_, _++_}
+use lib.Dec.{leb, eqb}
+use Rattle.octets.specs.Digits.{be, field}
+use Rattle.octets.specs.Part.{padded, zerosAt}
+use Rattle.octets.specs.Row.{joined, row}
+use Rattle.children.specs.declared.Child.{Child}
+
+unfoldable pub childOctets : Child → List ℕ
+childOctets c = be 4 (c .spi) ++ be 1 (c .session)
+
+unfoldable pub childrenOctets : List Child → List ℕ
+childrenOctets cs = padded 40 (joined childOctets cs)
+
+-- the child at a place
+unfoldable pub childFrom : List ℕ → ℕ → Child
+childFrom l at = record { spi = field l at 4; session = field l (at + 4) 1 }
+
+-- the child with a number among those that begin at a place
+unfoldable pub childIn : List ℕ → ℕ → ℕ → Child
+childIn l at i = childFrom l (at + 5 * i)
+
+unfoldable pub childrenFrom : List ℕ → ℕ → ℕ → List Child
+childrenFrom l at n = row (childIn l at) 0 n
+
+-- at most 8 children, and zeros in the places behind them
+unfoldable pub childrenWritten : List ℕ → ℕ → ℕ → Bool
+childrenWritten l at n = leb n 8 && zerosAt l (at + 5 * n) (40 - 5 * n)
+
+-- an SPI stands on a line
+unfoldable pub hasSpi : ℕ → List Child → Bool
+hasSpi spi [] = false
+hasSpi spi (c ∷ cs) = eqb spi (c .spi) || hasSpi spi cs
+
+-- children with different SPIs
+unfoldable pub spisDiffer : List Child → Bool
+spisDiffer [] = true
+spisDiffer (c ∷ cs) = not (hasSpi (c .spi) cs) && spisDiffer cs
+
+-- an SPI from 256, a session from 1 to 15
+unfoldable pub childFits : Child → Bool
+childFits c = leb 256 (c .spi) && leb 1 (c .session) && leb (c .session) 15

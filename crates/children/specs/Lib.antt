@@ -1,0 +1,2 @@
+-- The child associations of a line in octets.
+pub mod Children

@@ -1,0 +1,131 @@
+// The child associations of a line in octets.
+use octets::number::get;
+use octets::number::put;
+use octets::slice::zeros_at;
+ghost use mathlib.Core.Path.{_≡_};
+ghost use Prim.Native.Nat.{_+_, _≤_};
+ghost use lib.ListN.{drop, length, take};
+ghost use Rattle.octets.specs.Part.{Wrote};
+ghost use Rattle.octets.specs.Row.{joined};
+ghost use Rattle.octets.specs.Search.{allOf};
+ghost use Rattle.children.specs.Children.{childFits, childFrom, childOctets, childrenFrom, childrenWritten, hasSpi, spisDiffer};
+
+// A child association.
+pub struct Child {
+    pub spi: u64,
+    pub session: u64,
+}
+
+// The child at a place.
+fn read_child(b: &[u8], at: usize) -> Child
+    requires { ⌜ at + 5 ≤ length (now b) ⌝ }
+    ensures { λ r. ⌜ r ≡ childFrom (now (b .entry)) at ⌝ }
+{
+    Child {
+        spi: get(b, at, 4),
+        session: get(b, at + 4, 1),
+    }
+}
+
+// Stores a child at a place.
+fn put_child(b: &mut [u8], at: usize, child: Child)
+    requires { ⌜ at + 5 ≤ length (now b) ⌝ }
+    ensures { λ _. ⌜ Wrote (now (b .entry)) at (childOctets child) (now (b .exit)) ⌝ }
+{
+    put(b, at, 4, child.spi);
+    put(b, at + 4, 1, child.session);
+}
+
+// The first n children of those that begin at a place.
+pub fn read_children(b: &[u8], at: usize, n: usize) -> [Child; 8]
+    requires { ⌜ (at + 40 ≤ length (now b)) × (n ≤ 8) ⌝ }
+    ensures { λ r. ⌜ take n r ≡ childrenFrom (now (b .entry)) at n ⌝ }
+{
+    let mut list = [Child { spi: 0, session: 0 }; 8];
+    let mut i = 0;
+    while i < n {
+        list[i] = read_child(b, at + 5 * i);
+        i += 1;
+    }
+    list
+}
+
+// Stores the first n children of a list from a place on.
+pub fn put_children(b: &mut [u8], at: usize, list: [Child; 8], n: usize)
+    requires { ⌜ (at + 40 ≤ length (now b)) × (n ≤ 8) ⌝ }
+    ensures { λ _. ⌜ Wrote (now (b .entry)) at (joined childOctets (take n list)) (now (b .exit)) ⌝ }
+    ensures { λ _. ⌜ length (take n list) ≡ n ⌝ }
+{
+    let mut i = 0;
+    while i < n {
+        let child = list[i];
+        put_child(b, at + 5 * i, child);
+        i += 1;
+    }
+}
+
+// Whether at most 8 children stand at a place, and zeros behind them.
+pub fn are_written(b: &[u8], at: usize, n: usize) -> bool
+    requires { ⌜ at + 40 ≤ length (now b) ⌝ }
+    ensures { λ r. ⌜ r ≡ childrenWritten (now (b .entry)) at n ⌝ }
+{
+    if 8 < n {
+        return false;
+    }
+    zeros_at(b, at + 5 * n, 40 - 5 * n)
+}
+
+// Whether an SPI stands among the first n children, from a place on.
+pub fn has_spi(list: [Child; 8], from: usize, n: usize, spi: u64) -> bool
+    requires { ⌜ (from ≤ n) × (n ≤ 8) ⌝ }
+    ensures { λ r. ⌜ r ≡ hasSpi spi (drop from (take n list)) ⌝ }
+{
+    let mut i = from;
+    while i < n {
+        let child = list[i];
+        if spi == child.spi {
+            return true;
+        }
+        i += 1;
+    }
+    false
+}
+
+// Whether the first n children have different SPIs.
+pub fn are_different(list: [Child; 8], n: usize) -> bool
+    requires { ⌜ n ≤ 8 ⌝ }
+    ensures { λ r. ⌜ r ≡ spisDiffer (take n list) ⌝ }
+{
+    let mut i = 0;
+    while i < n {
+        let child = list[i];
+        if has_spi(list, i + 1, n, child.spi) {
+            return false;
+        }
+        i += 1;
+    }
+    true
+}
+
+// Whether the numbers of a child are in their ranges.
+pub fn child_fits(child: Child) -> bool
+    ensures { λ r. ⌜ r ≡ childFits child ⌝ }
+{
+    (256 <= child.spi) & (1 <= child.session) & (child.session <= 15)
+}
+
+// Whether the numbers of each of the first n children are in their ranges.
+pub fn all_fit(list: [Child; 8], n: usize) -> bool
+    requires { ⌜ n ≤ 8 ⌝ }
+    ensures { λ r. ⌜ r ≡ allOf childFits (take n list) ⌝ }
+{
+    let mut i = 0;
+    while i < n {
+        let each = list[i];
+        if !child_fits(each) {
+            return false;
+        }
+        i += 1;
+    }
+    true
+}

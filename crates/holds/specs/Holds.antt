@@ -1,0 +1,59 @@
+-- A hold in 22 octets: its address, and its end in 5 octets, of which zero says that it has none. A line has room for 8.
+use Prim.Native.Nat.{ℕ, _+_, _-_, _*_}
+use mathlib.Core.Bool.{Bool, true, false, cond, not, _&&_}
+use mathlib.Core.List.{List, [], _∷_, _++_}
+use lib.Dec.{leb, ltb, eqb}
+use Rattle.octets.specs.Digits.{be, field}
+use Rattle.octets.specs.Part.{padded, zerosAt}
+use Rattle.octets.specs.Row.{joined, row}
+use Rattle.octets.specs.Search.{all}
+use Rattle.address.specs.Address.{stands}
+use Rattle.address.specs.declared.Address.{Address}
+use Rattle.address.specs.declared.End.{End}
+use Rattle.address.specs.declared.End.the-variants.{At, Never}
+use Rattle.address.specs.declared.Hold.{Hold}
+use Rattle.addresses.specs.Addresses.{addressOctets, addressFrom, isAddress}
+
+unfoldable pub endNumber : End → ℕ
+endNumber (At t) = t
+endNumber Never = 0
+
+unfoldable pub holdOctets : Hold → List ℕ
+holdOctets h = addressOctets (h .address) ++ be 5 (endNumber (h .end))
+
+unfoldable pub holdsOctets : List Hold → List ℕ
+holdsOctets hs = padded 176 (joined holdOctets hs)
+
+-- the hold at a place
+unfoldable pub endOf : ℕ → End
+endOf t = cond (eqb t 0) Never (At t)
+
+unfoldable pub holdFrom : List ℕ → ℕ → Hold
+holdFrom l at = record { address = addressFrom l at; end = endOf (field l (at + 17) 5) }
+
+-- the hold with a number among those that begin at a place
+unfoldable pub holdIn : List ℕ → ℕ → ℕ → Hold
+holdIn l at i = holdFrom l (at + 22 * i)
+
+unfoldable pub holdsFrom : List ℕ → ℕ → ℕ → List Hold
+holdsFrom l at n = row (holdIn l at) 0 n
+
+-- at most 8 holds, each with an address that there is, and zeros in the places behind them
+unfoldable pub hasAddress : List ℕ → ℕ → ℕ → Bool
+hasAddress l at i = isAddress l (at + 22 * i)
+
+unfoldable pub holdsWritten : List ℕ → ℕ → ℕ → Bool
+holdsWritten l at n = leb n 8 && all n (hasAddress l at) && zerosAt l (at + 22 * n) (176 - 22 * n)
+
+-- holds for different addresses
+unfoldable pub different : List Address → Bool
+different [] = true
+different (a ∷ rest) = not (stands a rest) && different rest
+
+-- each ending after a time
+unfoldable pub endAfter : ℕ → End → Bool
+endAfter time (At t) = ltb time t
+endAfter time Never = true
+
+unfoldable pub endsAfter : ℕ → Hold → Bool
+endsAfter time h = endAfter time (h .end)

@@ -1,0 +1,2 @@
+-- The holds of a line in octets.
+pub mod Holds

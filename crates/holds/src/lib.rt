@@ -1,0 +1,153 @@
+// The holds of a line in octets.
+use address::Address;
+use address::End;
+use address::Hold;
+use address::is_held;
+use addresses::is_address;
+use addresses::put_address;
+use addresses::read_address;
+use octets::number::get;
+use octets::number::put;
+use octets::slice::zeros_at;
+ghost use mathlib.Core.Path.{_≡_};
+ghost use Prim.Native.Nat.{_+_, _*_, _≤_};
+ghost use lib.ListN.{length, take};
+ghost use Rattle.octets.specs.Part.{Wrote};
+ghost use Rattle.octets.specs.Row.{joined};
+ghost use Rattle.octets.specs.Search.{allOf};
+ghost use Rattle.address.specs.Address.{heldIn};
+ghost use Rattle.holds.specs.Holds.{different, endAfter, endNumber, endOf, endsAfter, holdFrom, holdOctets, holdsFrom, holdsWritten};
+
+// The end of a hold as a number.
+fn end_number(end: End) -> u64
+    ensures { λ r. ⌜ r ≡ endNumber end ⌝ }
+{
+    match end {
+        End::At(time) => time,
+        End::Never => 0,
+    }
+}
+
+// The end of a hold from its number.
+fn end_of(number: u64) -> End
+    ensures { λ r. ⌜ r ≡ endOf number ⌝ }
+{
+    if number == 0 {
+        return End::Never;
+    }
+    End::At(number)
+}
+
+// The hold at a place.
+fn read_hold(b: &[u8], at: usize) -> Hold
+    requires { ⌜ at + 22 ≤ length (now b) ⌝ }
+    ensures { λ r. ⌜ r ≡ holdFrom (now (b .entry)) at ⌝ }
+{
+    let address = read_address(b, at);
+    let end = end_of(get(b, at + 17, 5));
+    Hold { address, end }
+}
+
+// Stores a hold at a place.
+fn put_hold(b: &mut [u8], at: usize, hold: Hold)
+    requires { ⌜ at + 22 ≤ length (now b) ⌝ }
+    ensures { λ _. ⌜ Wrote (now (b .entry)) at (holdOctets hold) (now (b .exit)) ⌝ }
+{
+    let address = hold.address;
+    let end = hold.end;
+    put_address(b, at, address);
+    put(b, at + 17, 5, end_number(end));
+}
+
+// The first n holds of those that begin at a place.
+pub fn read_holds(b: &[u8], at: usize, n: usize) -> [Hold; 8]
+    requires { ⌜ (at + 176 ≤ length (now b)) × (n ≤ 8) ⌝ }
+    ensures { λ r. ⌜ take n r ≡ holdsFrom (now (b .entry)) at n ⌝ }
+{
+    let mut list = [Hold {
+        address: Address::V4(0),
+        end: End::Never,
+    }; 8];
+    let mut i = 0;
+    while i < n {
+        list[i] = read_hold(b, at + 22 * i);
+        i += 1;
+    }
+    list
+}
+
+// Stores the first n holds of a list from a place on.
+pub fn put_holds(b: &mut [u8], at: usize, list: [Hold; 8], n: usize)
+    requires { ⌜ (at + 176 ≤ length (now b)) × (n ≤ 8) ⌝ }
+    ensures { λ _. ⌜ Wrote (now (b .entry)) at (joined holdOctets (take n list)) (now (b .exit)) ⌝ }
+    ensures { λ _. ⌜ length (take n list) ≡ n ⌝ }
+{
+    let mut i = 0;
+    while i < n {
+        let hold = list[i];
+        put_hold(b, at + 22 * i, hold);
+        i += 1;
+    }
+}
+
+// Whether at most 8 holds stand at a place, each with an address, and zeros behind them.
+pub fn are_written(b: &[u8], at: usize, n: usize) -> bool
+    requires { ⌜ at + 176 ≤ length (now b) ⌝ }
+    ensures { λ r. ⌜ r ≡ holdsWritten (now (b .entry)) at n ⌝ }
+{
+    if 8 < n {
+        return false;
+    }
+    let mut i = 0;
+    while i < n {
+        if !is_address(b, at + 22 * i) {
+            return false;
+        }
+        i += 1;
+    }
+    zeros_at(b, at + 22 * n, 176 - 22 * n)
+}
+
+// Whether the first n holds are for different addresses.
+pub fn are_different(list: [Hold; 8], n: usize) -> bool
+    requires { ⌜ n ≤ 8 ⌝ }
+    ensures { λ r. ⌜ r ≡ different (heldIn list n) ⌝ }
+{
+    let mut i = 0;
+    while i < n {
+        let hold = list[i];
+        let address = hold.address;
+        if is_held(list, i + 1, n, address) {
+            return false;
+        }
+        i += 1;
+    }
+    true
+}
+
+// Whether a hold ends after a time.
+fn ends_after(end: End, time: u64) -> bool
+    ensures { λ r. ⌜ r ≡ endAfter time end ⌝ }
+{
+    match end {
+        End::At(t) => time < t,
+        End::Never => true,
+    }
+}
+
+// Whether each of the first n holds ends after a time.
+pub fn all_end_after(list: [Hold; 8], n: usize, time: u64) -> bool
+    requires { ⌜ n ≤ 8 ⌝ }
+    ensures { λ r. ⌜ r ≡ allOf (endsAfter time) (take n list) ⌝ }
+{
+    let mut i = 0;
+    while i < n {
+        let hold = list[i];
+        let end = hold.end;
+        if !ends_after(end, time) {
+            return false;
+        }
+        i += 1;
+    }
+    true
+}
