@@ -1,0 +1,8 @@
+-- The laws that the proofs of this crate share.
+pub mod Bools
+pub mod Places
+pub mod Phases
+pub mod Writes
+pub mod Stands
+pub mod Reading
+pub mod Writing

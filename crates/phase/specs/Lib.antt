@@ -1,0 +1,5 @@
+-- What a line does, with the data of its phase, in octets.
+pub mod Facts
+pub mod Phase
+pub mod Branch
+pub mod Laws

@@ -1,0 +1,93 @@
+-- A phase in 20 octets: its number, and 19 octets of its own data with zeros behind them.
+use Prim.Native.Nat.{ℕ, _+_}
+use mathlib.Core.Bool.{Bool, true, false, cond, _&&_}
+use mathlib.Core.List.{List, _++_}
+use lib.Dec.{leb, eqb}
+use Rattle.octets.specs.Digits.{be, field}
+use Rattle.octets.specs.Part.{zeros, zerosAt}
+use Rattle.address.specs.declared.Address.{Address}
+use Rattle.addresses.specs.Addresses.{addressOctets, addressFrom, isAddress}
+use Rattle.place.specs.declared.Facts.{Facts}
+use Rattle.place.specs.declared.Place.{Place}
+use Rattle.place.specs.declared.Place.the-variants as Place
+use Rattle.phase.specs.Facts.{factsOctets, factsFrom, factsFit, factsWritten}
+use Rattle.phase.specs.declared.Phase.{Phase}
+use Rattle.phase.specs.declared.Phase.the-variants.{Idle, Country, Name, Chosen, Init, Auth, Eap, Sure, Live}
+use Rattle.phase.specs.declared.Turn.{Turn}
+use Rattle.phase.specs.declared.Turn.the-variants.{First, Owed, Answered}
+
+-- the place facts while DNS runs
+unfoldable pub asking : ℕ → Facts → List ℕ
+asking n f = be 1 n ++ factsOctets f ++ zeros 10
+
+-- the chosen address from then on
+unfoldable pub having : ℕ → Address → List ℕ
+having n a = be 1 n ++ addressOctets a ++ zeros 2
+
+-- identifiers during EAP
+unfoldable pub turnOctets : Turn → List ℕ
+turnOctets (First i) = be 1 1 ++ be 1 i
+turnOctets (Owed i) = be 1 2 ++ be 1 i
+turnOctets (Answered i) = be 1 3 ++ be 1 i
+
+unfoldable pub phaseOctets : Phase → List ℕ
+phaseOctets Idle = zeros 20
+phaseOctets (Country f) = asking 1 f
+phaseOctets (Name f) = asking 2 f
+phaseOctets (Chosen a) = having 3 a
+phaseOctets (Init a) = having 4 a
+phaseOctets (Auth a) = having 5 a
+phaseOctets (Eap a t) = be 1 6 ++ addressOctets a ++ turnOctets t
+phaseOctets (Sure a) = having 7 a
+phaseOctets (Live a) = having 8 a
+
+-- the phase at a place
+unfoldable pub turnFrom : List ℕ → ℕ → Turn
+turnFrom l at =
+    let i = field l (at + 1) 1 in
+    cond (eqb (field l at 1) 1) (First i) (cond (eqb (field l at 1) 2) (Owed i) (Answered i))
+
+unfoldable pub phaseFrom : List ℕ → ℕ → Phase
+phaseFrom l at =
+    let n = field l at 1 in
+    let f = factsFrom l (at + 1) in
+    let a = addressFrom l (at + 1) in
+    cond (eqb n 0) Idle
+    (cond (eqb n 1) (Country f)
+    (cond (eqb n 2) (Name f)
+    (cond (eqb n 3) (Chosen a)
+    (cond (eqb n 4) (Init a)
+    (cond (eqb n 5) (Auth a) (cond (eqb n 6) (Eap a (turnFrom l (at + 18))) (cond (eqb n 7) (Sure a) (Live a))))))))
+
+-- phase country only abroad
+unfoldable pub isAbroad : Place → Bool
+isAbroad Place.Unknown = false
+isAbroad Place.Home = false
+isAbroad (Place.Abroad mcc) = true
+
+-- the facts that a phase keeps are in their ranges
+unfoldable pub phaseFits : Phase → Bool
+phaseFits Idle = true
+phaseFits (Country f) = factsFit f && isAbroad (f .place)
+phaseFits (Name f) = factsFit f
+phaseFits (Chosen a) = true
+phaseFits (Init a) = true
+phaseFits (Auth a) = true
+phaseFits (Eap a t) = true
+phaseFits (Sure a) = true
+phaseFits (Live a) = true
+
+-- a number that there is, and zeros in what its phase does not use
+unfoldable pub turnWritten : List ℕ → ℕ → Bool
+turnWritten l at = leb 1 (field l at 1) && leb (field l at 1) 3
+
+unfoldable pub phaseWritten : List ℕ → ℕ → Bool
+phaseWritten l at =
+    let n = field l at 1 in
+    cond (eqb n 0) (zerosAt l (at + 1) 19)
+    (cond (leb n 2) (factsWritten l (at + 1) && zerosAt l (at + 10) 10)
+    (cond (eqb n 6) (isAddress l (at + 1) && turnWritten l (at + 18)) (leb n 8 && isAddress l (at + 1) && zerosAt l (at + 18) 2)))
+
+-- a phase stands at a place
+unfoldable pub isPhase : List ℕ → ℕ → Bool
+isPhase l at = phaseWritten l at && phaseFits (phaseFrom l at)
