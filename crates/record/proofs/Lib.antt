@@ -1,0 +1,4 @@
+-- The laws that the proofs of this crate share.
+pub mod Lines
+pub mod Sounds
+pub mod Writing

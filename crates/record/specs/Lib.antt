@@ -1,0 +1,5 @@
+-- The record of a line: its octets, and when it is sound.
+pub mod Line
+pub mod Octets
+pub mod Sound
+pub mod Branch

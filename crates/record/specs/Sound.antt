@@ -1,0 +1,84 @@
+-- When a record is sound (document 01, 'The table and who sits in it'), one condition after another.
+use Prim.Native.Nat.{ℕ}
+use mathlib.Core.Bool.{Bool, true, false, not, _&&_, _||_}
+use mathlib.Core.List.{List, [], _∷_, map}
+use mathlib.Core.Option.{Option, none, some}
+use lib.Dec.{leb}
+use lib.ListN.{length}
+use Rattle.octets.specs.Digits.{field}
+use Rattle.octets.specs.Search.{allOf}
+use Rattle.address.specs.Address.{addressIn, stands}
+use Rattle.address.specs.declared.Address.{Address}
+use Rattle.address.specs.declared.Hold.{Hold}
+use Rattle.children.specs.declared.Child.{Child}
+use Rattle.children.specs.Children.{childFits, childrenWritten, spisDiffer}
+use Rattle.holds.specs.Holds.{different, endsAfter, holdsWritten}
+use Rattle.phase.specs.Phase.{phaseFits, phaseWritten}
+use Rattle.phase.specs.declared.Phase.{Phase}
+use Rattle.phase.specs.declared.Phase.the-variants.{Idle, Country, Name, Chosen, Init, Auth, Eap, Sure, Live}
+use Rattle.record.specs.Line.{Line}
+use Rattle.record.specs.Octets.{lineFrom}
+
+-- the chosen address
+unfoldable pub chosen : Phase → Option Address
+chosen Idle = none
+chosen (Country f) = none
+chosen (Name f) = none
+chosen (Chosen a) = some a
+chosen (Init a) = some a
+chosen (Auth a) = some a
+chosen (Eap a t) = some a
+chosen (Sure a) = some a
+chosen (Live a) = some a
+
+unfoldable pub isIdle : Phase → Bool
+isIdle Idle = true
+isIdle (Country f) = false
+isIdle (Name f) = false
+isIdle (Chosen a) = false
+isIdle (Init a) = false
+isIdle (Auth a) = false
+isIdle (Eap a t) = false
+isIdle (Sure a) = false
+isIdle (Live a) = false
+
+unfoldable pub isLive : Phase → Bool
+isLive Idle = false
+isLive (Country f) = false
+isLive (Name f) = false
+isLive (Chosen a) = false
+isLive (Init a) = false
+isLive (Auth a) = false
+isLive (Eap a t) = false
+isLive (Sure a) = false
+isLive (Live a) = true
+
+-- every field in its range
+unfoldable pub inRange : Phase → List Child → Bool
+inRange p cs = phaseFits p && allOf childFits cs
+
+-- at most 8 child associations, only on a live line, with different SPIs
+unfoldable pub childrenSound : Phase → List Child → Bool
+childrenSound p cs = leb (length cs) 8 && (isLive p || leb (length cs) 0) && spisDiffer cs
+
+-- none of the holds is the chosen one
+unfoldable pub isFree : Option Address → List Address → Bool
+isFree none held = true
+isFree (some a) held = not (stands a held)
+
+-- at most 8 holds, at most 7 unless the line is idle, for different addresses, none of them the chosen one, each ending after the last time
+unfoldable pub holdsSound : ℕ → Phase → List Hold → Bool
+holdsSound time p hs =
+    leb (length hs) 8 && (isIdle p || leb (length hs) 7) && different (map addressIn hs) && isFree (chosen p) (map addressIn hs)
+    && allOf (endsAfter time) hs
+
+unfoldable pub lineSound : Line → Bool
+lineSound x = inRange (x .phase) (x .children) && childrenSound (x .phase) (x .children) && holdsSound (x .time) (x .phase) (x .holds)
+
+-- unused places zero
+unfoldable pub lineWritten : List ℕ → Bool
+lineWritten l = phaseWritten l 5 && holdsWritten l 27 (field l 25 1) && childrenWritten l 203 (field l 26 1)
+
+-- a record of one of the 64 pairs
+unfoldable pub isRecord : List ℕ → Bool
+isRecord l = leb 1 (field l 0 1) && leb (field l 0 1) 64 && lineWritten l && lineSound (lineFrom l)

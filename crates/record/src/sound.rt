@@ -1,0 +1,167 @@
+// When a record is sound.
+use crate::read_record;
+use address::Hold;
+use address::is_held;
+use children::Child;
+use children::all_fit;
+use holds::all_end_after;
+use octets::number::get;
+use phase::Phase;
+use phase::codec::is_phase;
+ghost use mathlib.Core.Bool.{_||_};
+ghost use mathlib.Core.Path.{_≡_};
+ghost use Prim.Native.Nat.{_≤_};
+ghost use lib.Dec.{leb};
+ghost use lib.ListN.{length, take};
+ghost use Rattle.address.specs.Address.{heldIn};
+ghost use Rattle.record.specs.Branch.{listsSound, listsWritten};
+ghost use Rattle.record.specs.Sound.{childrenSound, chosen, holdsSound, isFree, isIdle, isLive, isRecord};
+
+// Whether a line is idle.
+fn is_idle(phase: Phase) -> bool
+    ensures { λ r. ⌜ r ≡ isIdle phase ⌝ }
+{
+    match phase {
+        Phase::Idle => true,
+        Phase::Country(_) => false,
+        Phase::Name(_) => false,
+        Phase::Chosen(_) => false,
+        Phase::Init(_) => false,
+        Phase::Auth(_) => false,
+        Phase::Eap(_, _) => false,
+        Phase::Sure(_) => false,
+        Phase::Live(_) => false,
+    }
+}
+
+// Whether a line in a phase may have n holds of eight.
+fn has_room(phase: Phase, n: usize) -> bool
+    ensures { λ r. ⌜ r ≡ isIdle phase || leb n 7 ⌝ }
+{
+    if is_idle(phase) {
+        return true;
+    }
+    n <= 7
+}
+
+// Whether a line is live.
+fn is_live(phase: Phase) -> bool
+    ensures { λ r. ⌜ r ≡ isLive phase ⌝ }
+{
+    match phase {
+        Phase::Live(_) => true,
+        Phase::Idle => false,
+        Phase::Country(_) => false,
+        Phase::Name(_) => false,
+        Phase::Chosen(_) => false,
+        Phase::Init(_) => false,
+        Phase::Auth(_) => false,
+        Phase::Eap(_, _) => false,
+        Phase::Sure(_) => false,
+    }
+}
+
+// Whether none of the first n holds is the chosen address.
+fn is_free(phase: Phase, holds: [Hold; 8], n: usize) -> bool
+    requires { ⌜ n ≤ 8 ⌝ }
+    ensures { λ r. ⌜ r ≡ isFree (chosen phase) (heldIn holds n) ⌝ }
+{
+    match phase {
+        Phase::Idle => true,
+        Phase::Country(_) => true,
+        Phase::Name(_) => true,
+        Phase::Chosen(a) => !is_held(holds, 0, n, a),
+        Phase::Init(a) => !is_held(holds, 0, n, a),
+        Phase::Auth(a) => !is_held(holds, 0, n, a),
+        Phase::Eap(a, _) => !is_held(holds, 0, n, a),
+        Phase::Sure(a) => !is_held(holds, 0, n, a),
+        Phase::Live(a) => !is_held(holds, 0, n, a),
+    }
+}
+
+// Whether the first n children are those that a line in a phase may have.
+fn are_children(phase: Phase, list: [Child; 8], n: usize) -> bool
+    requires { ⌜ n ≤ 8 ⌝ }
+    ensures { λ r. ⌜ r ≡ childrenSound phase (take n list) ⌝ }
+{
+    if is_live(phase) {
+        return children::are_different(list, n);
+    }
+    n == 0
+}
+
+// Whether the first n holds are those that a line in a phase may have.
+fn are_holds(time: u64, phase: Phase, list: [Hold; 8], n: usize) -> bool
+    requires { ⌜ n ≤ 8 ⌝ }
+    ensures { λ r. ⌜ r ≡ holdsSound time phase (take n list) ⌝ }
+{
+    if !has_room(phase, n) {
+        return false;
+    }
+    if !holds::are_different(list, n) {
+        return false;
+    }
+    if !is_free(phase, list, n) {
+        return false;
+    }
+    all_end_after(list, n, time)
+}
+
+// Whether the numbers of the first n children are in their ranges, and these and the first m holds are those that a line may have.
+fn are_lists(
+    time: u64,
+    phase: Phase,
+    holds: [Hold; 8],
+    m: usize,
+    children: [Child; 8],
+    n: usize,
+) -> bool
+    requires { ⌜ (m ≤ 8) × (n ≤ 8) ⌝ }
+    ensures { λ r. ⌜ r ≡ listsSound time phase (take m holds) (take n children) ⌝ }
+{
+    if !all_fit(children, n) {
+        return false;
+    }
+    if !are_children(phase, children, n) {
+        return false;
+    }
+    are_holds(time, phase, holds, m)
+}
+
+// Whether a record has holds and children, and zeros in the places that they do not use.
+fn is_written(b: &[u8]) -> bool
+    requires { ⌜ 243 ≤ length (now b) ⌝ }
+    ensures { λ r. ⌜ r ≡ listsWritten (now (b .entry)) ⌝ }
+{
+    let m = get(b, 25, 1) as usize;
+    if !holds::are_written(b, 27, m) {
+        return false;
+    }
+    let n = get(b, 26, 1) as usize;
+    children::are_written(b, 203, n)
+}
+
+// Whether the octets of a used record are sound.
+pub fn is_record(b: &[u8]) -> bool
+    requires { ⌜ 243 ≤ length (now b) ⌝ }
+    ensures { λ r. ⌜ r ≡ isRecord (now (b .entry)) ⌝ }
+{
+    let pair = get(b, 0, 1);
+    if pair < 1 {
+        return false;
+    }
+    if 64 < pair {
+        return false;
+    }
+    if !is_phase(b, 5) {
+        return false;
+    }
+    if !is_written(b) {
+        return false;
+    }
+    let r = read_record(b);
+    let phase = r.phase;
+    let holds = r.holds;
+    let children = r.children;
+    are_lists(r.time, phase, holds, r.hold_count, children, r.child_count)
+}
