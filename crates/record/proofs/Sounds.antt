@@ -11,7 +11,7 @@ use borrow.Author.Tests.{le-leb, lt-leb, leb-true, eq-eqb, ne-eqb}
 use Rattle.octets.specs.Digits.{field}
 use Rattle.octets.specs.Part.{zerosAt}
 use Rattle.octets.specs.Search.{all, allOf}
-use Rattle.octets.proofs.Search.{and-left, and-right, and-false}
+use Rattle.octets.proofs.Search.{and-left, and-right, and-true, and-false}
 use Rattle.address.specs.Address.{addressIn}
 use Rattle.address.specs.declared.Hold.{Hold}
 use Rattle.children.specs.Children.{childFits, childrenWritten, spisDiffer}
@@ -150,3 +150,13 @@ module _ (l : List ℕ) where
 
             sound-is : listsSound (lineFrom l .time) (lineFrom l .phase) (lineFrom l .holds) (lineFrom l .children) ≡ isRecord l
             sound-is = sym (rw (le-leb 1 (field l 0 1) low, le-leb (field l 0 1) 64 high, all-written, fits-is))
+
+-- what a sound record's lists do not use is zero
+pub record-lists : (l : List ℕ) → isRecord l ≡ true → listsWritten l ≡ true
+unfolding isRecord lineWritten listsWritten
+record-lists l e =
+    let pairs = leb 1 (field l 0 1) && leb (field l 0 1) 64 in
+    let holds = holdsWritten l 27 (field l 25 1) in
+    let children = childrenWritten l 203 (field l 26 1) in
+    let written : lineWritten l ≡ true = and-right pairs (lineWritten l) (and-left (pairs && lineWritten l) (lineSound (lineFrom l)) e) in
+    and-true holds children (and-right (phaseWritten l 5) holds (and-left (phaseWritten l 5 && holds) children written)) (and-right (phaseWritten l 5 && holds) children written)

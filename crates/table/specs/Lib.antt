@@ -1,0 +1,2 @@
+-- The table of records.
+pub mod Table
