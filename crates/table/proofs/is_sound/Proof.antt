@@ -30,13 +30,13 @@ is-slot-requires : tie.Need-is-slot-requires Inv-loop μ-loop
 is-slot-requires c κs = omega arith
 
 returns-2 : tie.Need-returns-2 Inv-loop μ-loop
-returns-2 c = bad-slot _ (c .before .before .before .before .if1 .left) (c .before .before .before .loop .i) (c .before .before .loop-test .taken) (sym (c .before .is-slot .ensures) ∙ not-true _ (c .if2 .taken))
+returns-2 c = bad-slot _ (c .before .before .before .before .if1 .left) (c .before .before .before .loop .i) (omega arith) (sym (c .before .is-slot .ensures) ∙ not-true _ (c .if2 .taken))
 
 is-once-requires : tie.Need-is-once-requires Inv-loop μ-loop
 is-once-requires c κs = omega arith
 
 returns-3 : tie.Need-returns-3 Inv-loop μ-loop
-returns-3 c = pair-twice _ (c .before .before .before .before .before .before .if1 .left) (c .before .before .before .before .before .loop .i) (c .before .before .before .before .loop-test .taken) (sym (c .before .is-once .ensures) ∙ not-true _ (c .if3 .taken))
+returns-3 c = pair-twice _ (c .before .before .before .before .before .before .if1 .left) (c .before .before .before .before .before .loop .i) (omega arith) (sym (c .before .is-once .ensures) ∙ not-true _ (c .if3 .taken))
 
 add-i : tie.Need-add-i Inv-loop μ-loop
 add-i c = search needs
