@@ -1,9 +1,10 @@
 -- Addresses of both IP versions, and when one is permitted (document 01, S5).
 use Prim.Native.Nat.{ℕ}
-use mathlib.Core.Bool.{Bool, false, not, _&&_, _||_}
-use mathlib.Core.List.{List, [], _∷_, map}
+use mathlib.Core.Bool.{Bool, false, not, _&&_}
+use mathlib.Core.List.{List, map}
 use lib.Dec.{eqb}
 use lib.ListN.{take}
+use Rattle.octets.specs.Search.{anyOf}
 use Rattle.address.specs.declared.Address.{Address}
 use Rattle.address.specs.declared.Address.the-variants.{V4, V6}
 use Rattle.address.specs.declared.Hold.{Hold}
@@ -22,8 +23,7 @@ sameAddress (V6 h l) (V6 i m) = eqb h i && eqb l m
 
 -- an address stands in a list
 unfoldable pub stands : Address → List Address → Bool
-stands a [] = false
-stands a (b ∷ bs) = sameAddress a b || stands a bs
+stands a bs = anyOf (sameAddress a) bs
 
 -- the address of a hold
 unfoldable pub addressIn : Hold → Address

@@ -1,2 +1,3 @@
 -- Addresses in octets.
 pub mod Addresses
+pub mod Laws

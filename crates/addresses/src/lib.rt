@@ -8,6 +8,7 @@ ghost use Prim.Native.Nat.{_+_, _≤_};
 ghost use lib.ListN.{length};
 ghost use Rattle.octets.specs.Part.{Wrote};
 ghost use Rattle.addresses.specs.Addresses.{addressFrom, addressOctets, isAddress};
+ghost use Rattle.addresses.specs.Laws.{Laws};
 
 // The address at a place.
 pub fn read_address(list: &[u8], at: usize) -> Address
@@ -53,3 +54,8 @@ pub fn put_address(list: &mut [u8], at: usize, a: Address)
         }
     }
 }
+
+// Does nothing; its promise is that writing and reading undo each other.
+pub fn laws()
+    ensures { λ _. ⌜ Laws ⌝ }
+{}

@@ -1,11 +1,12 @@
 -- A child association in 5 octets: its SPI and its session. A line has room for 8.
 use Prim.Native.Nat.{ℕ, _+_, _-_, _*_}
-use mathlib.Core.Bool.{Bool, true, false, not, _&&_, _||_}
-use mathlib.Core.List.{List, [], _∷_, _++_}
+use mathlib.Core.Bool.{Bool, _&&_}
+use mathlib.Core.List.{List, _++_}
 use lib.Dec.{leb, eqb}
 use Rattle.octets.specs.Digits.{be, field}
 use Rattle.octets.specs.Part.{padded, zerosAt}
 use Rattle.octets.specs.Row.{joined, row}
+use Rattle.octets.specs.Search.{anyOf, distinct}
 use Rattle.children.specs.declared.Child.{Child}
 
 unfoldable pub childOctets : Child → List ℕ
@@ -30,14 +31,18 @@ unfoldable pub childrenWritten : List ℕ → ℕ → ℕ → Bool
 childrenWritten l at n = leb n 8 && zerosAt l (at + 5 * n) (40 - 5 * n)
 
 -- an SPI stands on a line
+unfoldable pub isSpi : ℕ → Child → Bool
+isSpi spi c = eqb spi (c .spi)
+
 unfoldable pub hasSpi : ℕ → List Child → Bool
-hasSpi spi [] = false
-hasSpi spi (c ∷ cs) = eqb spi (c .spi) || hasSpi spi cs
+hasSpi spi cs = anyOf (isSpi spi) cs
 
 -- children with different SPIs
+unfoldable pub sameSpi : Child → Child → Bool
+sameSpi c d = isSpi (c .spi) d
+
 unfoldable pub spisDiffer : List Child → Bool
-spisDiffer [] = true
-spisDiffer (c ∷ cs) = not (hasSpi (c .spi) cs) && spisDiffer cs
+spisDiffer cs = distinct sameSpi cs
 
 -- an SPI from 256, a session from 1 to 15
 unfoldable pub childFits : Child → Bool

@@ -1,2 +1,3 @@
 -- The child associations of a line in octets.
 pub mod Children
+pub mod Laws

@@ -9,6 +9,7 @@ ghost use Rattle.octets.specs.Part.{Wrote};
 ghost use Rattle.octets.specs.Row.{joined};
 ghost use Rattle.octets.specs.Search.{allOf};
 ghost use Rattle.children.specs.Children.{childFits, childFrom, childOctets, childrenFrom, childrenWritten, hasSpi, spisDiffer};
+ghost use Rattle.children.specs.Laws.{Laws};
 
 // A child association.
 pub struct Child {
@@ -129,3 +130,8 @@ pub fn all_fit(list: [Child; 8], n: usize) -> bool
     }
     true
 }
+
+// Does nothing; its promise is that writing and reading undo each other.
+pub fn laws()
+    ensures { λ _. ⌜ Laws ⌝ }
+{}

@@ -2,6 +2,7 @@
 use Prim.Native.Nat.{ℕ}
 use mathlib.Core.List.{List, [], _∷_, _++_, map}
 use mathlib.Core.Path.{_≡_, refl}
+use Rattle.octets.specs.Search.{anyOf}
 use Rattle.octets.specs.Digits.{field, number, numberFrom}
 use Rattle.octets.specs.Part.{part, zeros}
 use Rattle.octets.specs.Row.{row, place}
@@ -49,5 +50,5 @@ unfoldable pub said : Example → Found
 said e = e .says
 
 pub computed : map found examples ≡ map said examples
-unfolding examples found said dotted choose foundAt addressesIn addressAt addressFrom versionFrom row place permitted stands sameAddress versionOf zeros field number numberFrom part
+unfolding examples found said dotted choose foundAt addressesIn addressAt addressFrom versionFrom row place permitted stands anyOf sameAddress versionOf zeros field number numberFrom part
 computed = refl

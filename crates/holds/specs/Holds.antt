@@ -1,13 +1,13 @@
 -- A hold in 22 octets: its address, and its end in 5 octets, of which zero says that it has none. A line has room for 8.
 use Prim.Native.Nat.{ℕ, _+_, _-_, _*_}
-use mathlib.Core.Bool.{Bool, true, false, cond, not, _&&_}
-use mathlib.Core.List.{List, [], _∷_, _++_}
+use mathlib.Core.Bool.{Bool, true, cond, _&&_}
+use mathlib.Core.List.{List, _++_}
 use lib.Dec.{leb, ltb, eqb}
 use Rattle.octets.specs.Digits.{be, field}
 use Rattle.octets.specs.Part.{padded, zerosAt}
 use Rattle.octets.specs.Row.{joined, row}
-use Rattle.octets.specs.Search.{all}
-use Rattle.address.specs.Address.{stands}
+use Rattle.octets.specs.Search.{all, distinct}
+use Rattle.address.specs.Address.{sameAddress}
 use Rattle.address.specs.declared.Address.{Address}
 use Rattle.address.specs.declared.End.{End}
 use Rattle.address.specs.declared.End.the-variants.{At, Never}
@@ -47,8 +47,7 @@ holdsWritten l at n = leb n 8 && all n (hasAddress l at) && zerosAt l (at + 22 *
 
 -- holds for different addresses
 unfoldable pub different : List Address → Bool
-different [] = true
-different (a ∷ rest) = not (stands a rest) && different rest
+different held = distinct sameAddress held
 
 -- each ending after a time
 unfoldable pub endAfter : ℕ → End → Bool

@@ -1,2 +1,3 @@
 -- The holds of a line in octets.
 pub mod Holds
+pub mod Laws

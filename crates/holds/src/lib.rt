@@ -17,6 +17,7 @@ ghost use Rattle.octets.specs.Row.{joined};
 ghost use Rattle.octets.specs.Search.{allOf};
 ghost use Rattle.address.specs.Address.{heldIn};
 ghost use Rattle.holds.specs.Holds.{different, endAfter, endNumber, endOf, endsAfter, holdFrom, holdOctets, holdsFrom, holdsWritten};
+ghost use Rattle.holds.specs.Laws.{Laws};
 
 // The end of a hold as a number.
 fn end_number(end: End) -> u64
@@ -151,3 +152,8 @@ pub fn all_end_after(list: [Hold; 8], n: usize, time: u64) -> bool
     }
     true
 }
+
+// Does nothing; its promise is that writing and reading undo each other.
+pub fn laws()
+    ensures { λ _. ⌜ Laws ⌝ }
+{}

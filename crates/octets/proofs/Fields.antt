@@ -2,15 +2,15 @@
 use Prim.Native.Nat.{ℕ, zero, suc, _+_, _^_, _≤_, _<_}
 use mathlib.Core.Bool.{Bool, true}
 use mathlib.Core.List.{List, [], _∷_, _++_}
-use mathlib.Core.Path.{_≡_, refl, sym, ap, _∙_, subst}
+use mathlib.Core.Path.{_≡_, refl, sym, ap, ap₂, _∙_, subst}
 use lib.ListN.{length, take, drop}
 use lib.Seq.{take-add, drop-drop, take-length}
 use Rattle.octets.specs.Digits.{be, field}
 use Rattle.octets.specs.Laws.{below}
-use Rattle.octets.specs.Part.{part}
+use Rattle.octets.specs.Part.{part, zeros, zerosAt}
 use Rattle.octets.specs.Search.{allOf}
 use Rattle.octets.proofs.Digits.{digits-number, number-below}
-use Rattle.octets.proofs.Parts.{length-part}
+use Rattle.octets.proofs.Parts.{length-part, same-equal}
 use Rattle.octets.proofs.Search.{and-left, and-right, and-true}
 
 module _ (p : ℕ → Bool) where
@@ -43,10 +43,22 @@ module _ (l : List ℕ) (octets : allOf (below 256) l ≡ true) (at n : ℕ) (fi
   be-field =
       ap (λ (k : ℕ). be k (field l at n)) (sym (length-part l at n fits)) ∙ digits-number 256 (part l at n) (allOf-part (below 256) l at n octets)
 
+-- a number that a field says is written as the field's octets
+pub number-back : (l : List ℕ) → allOf (below 256) l ≡ true → (at w x : ℕ) → at + w ≤ length l → field l at w ≡ x → be w x ≡ part l at w
+number-back l octets at w x h e = ap (be w) (sym e) ∙ be-field l octets at w h
+
+pub zeros-back : (l : List ℕ) (at n : ℕ) → zerosAt l at n ≡ true → zeros n ≡ part l at n
+unfolding zerosAt
+zeros-back l at n e = sym (same-equal (part l at n) (zeros n) e)
+
 -- parts that follow one another are one part
 pub part-join : (l : List ℕ) (at m n : ℕ) → part l at m ++ part l (at + m) n ≡ part l at (m + n)
 unfolding part
 part-join l at m n = ap (λ (k : List ℕ). take m (drop at l) ++ take n k) (sym (drop-drop m at l)) ∙ sym (take-add m n (drop at l))
+
+-- octets that follow one another
+pub follow : (l : List ℕ) (at a b : ℕ) {vs ws : List ℕ} → vs ≡ part l at a → ws ≡ part l (at + a) b → vs ++ ws ≡ part l at (a + b)
+follow l at a b e f = ap₂ (λ (x y : List ℕ). x ++ y) e f ∙ part-join l at a b
 
 pub part-whole : (l : List ℕ) → part l 0 (length l) ≡ l
 unfolding part

@@ -16,6 +16,10 @@ pub length-part : (l : List ℕ) (at n : ℕ) → at + n ≤ length l → length
 unfolding part
 length-part l at n h = length-take-le n (drop at l) (rw length-drop (omega arith))
 
+-- the length of two runs, one behind the other
+pub both : (a b : List ℕ) (m n : ℕ) → length a ≡ m → length b ≡ n → length (a ++ b) ≡ m + n
+both a b m n e f = length-append a b ∙ ap₂ (λ (i j : ℕ). i + j) e f
+
 -- two runs of stores, one after the other
 pub sets-append : (l : List ℕ) (at : ℕ) (vs ws : List ℕ) → sets l at (vs ++ ws) ≡ sets (sets l at vs) (at + length vs) ws
 sets-append l at [] ws = ap (λ (k : ℕ). sets l k ws) (sym (add-zero at))
@@ -55,6 +59,13 @@ drop-zeros (suc k) (suc n) = drop-zeros k n ∙ ap zeros (sym (suc-sub-suc n k))
 pub length-zeros : (n : ℕ) → length (zeros n) ≡ n
 unfolding zeros
 length-zeros n = length-replicate n 0
+
+-- a list padded to more octets
+pub padded-length : (n : ℕ) (l : List ℕ) → length l ≤ n → length (padded n l) ≡ n
+unfolding padded
+padded-length n l h =
+    let size : length (l ++ zeros (n - length l)) ≡ length l + (n - length l) = both l (zeros (n - length l)) (length l) (n - length l) refl (length-zeros (n - length l)) in
+    omega (arith, size)
 
 -- zeros with a text stored from their start are the text padded
 pub padded-wrote : (n : ℕ) (vs m : List ℕ) → length vs ≤ n → Wrote (zeros n) 0 vs m → m ≡ padded n vs

@@ -1,18 +1,19 @@
 -- The laws of rows, by which a loop over numbers goes along a row, and of the first element that passes.
 use Prim.Native.Nat.{ℕ, zero, suc, _+_, _-_, _*_, _≤_, _<_}
-use mathlib.Core.Bool.{Bool, true, false, _&&_}
+use mathlib.Core.Bool.{Bool, true, false, not, _&&_, _||_}
 use mathlib.Core.List.{List, [], _∷_, _++_, append-assoc, append-nil}
 use mathlib.Core.Option.{none, some}
 use mathlib.Core.Path.{_≡_, refl, sym, ap, ap₂, _∙_, subst}
 use native.Mathlib.Nat.{add-zero, add-suc, suc-add, zero-add, add-comm, mul-zero, mul-suc, sub-zero, zero-sub, suc-sub-suc}
 use native.Mathlib.Numerals.{add-one}
 use native.Mathlib.Omega.{arith}
-use lib.ListN.{length, getD, set, take, drop, length-append, drop-of-length-le}
+use lib.ListN.{length, getD, set, take, drop, replicate, length-append, drop-of-length-le}
 use lib.Seq.{drop-cons, getD-take, length-take-le, take-suc, take-suc-set}
 use Rattle.octets.specs.Part.{Wrote}
-use Rattle.octets.specs.Search.{allOf}
+use Rattle.octets.specs.Search.{allOf, anyOf, distinct}
 use Rattle.octets.specs.Row.{row, place, first, joined}
 use Rattle.octets.proofs.Parts.{then}
+use Rattle.octets.proofs.Search.{and-true}
 
 module _ {A : Type 0} (f : ℕ → A) where
   -- what is left of a row is a row
@@ -21,6 +22,43 @@ module _ {A : Type 0} (f : ℕ → A) where
   drop-row zero k n = ap₂ (row f) (sym (add-zero k)) (sym (sub-zero n))
   drop-row (suc i) k zero = ap (row f (k + suc i)) (sym (zero-sub (suc i)))
   drop-row (suc i) k (suc n) = drop-row i (suc k) n ∙ ap₂ (row f) (suc-add k i ∙ sym (add-suc k i)) (sym (suc-sub-suc n i))
+
+  pub length-row : (k n : ℕ) → length (row f k n) ≡ n
+  unfolding row
+  length-row k zero = refl
+  length-row k (suc n) = ap suc (length-row (suc k) n)
+
+  -- a row passes where each of its values does
+  pub row-passes : (p : A → Bool) (k n : ℕ) → ((i : ℕ) → i < k + n → p (f i) ≡ true) → allOf p (row f k n) ≡ true
+  unfolding row allOf
+  row-passes p k zero h = refl
+  row-passes p k (suc n) h =
+      and-true (p (f k)) (allOf p (row f (suc k) n)) (h k (omega arith)) (row-passes p (suc k) n (λ i l. h i (omega arith)))
+
+  -- a row of one value
+  pub row-of : (x : A) (k n : ℕ) → ((i : ℕ) → i < k + n → f i ≡ x) → row f k n ≡ replicate n x
+  unfolding row
+  row-of x k zero e = refl
+  row-of x k (suc n) e = ap₂ (λ (y : A) (ys : List A). y ∷ ys) (e k (omega arith)) (row-of x (suc k) n (λ i h. e i (omega arith)))
+
+  -- two rows with the same values from a number on
+  pub row-same : (g : ℕ → A) (k n : ℕ) → ((i : ℕ) → k ≤ i → g i ≡ f i) → row g k n ≡ row f k n
+  unfolding row
+  row-same g k zero e = refl
+  row-same g k (suc n) e = ap₂ (λ (y : A) (ys : List A). y ∷ ys) (e k (omega arith)) (row-same g (suc k) n (λ i h. e i (omega arith)))
+
+  -- no value of a row passes
+  pub row-fails : (p : A → Bool) (k n : ℕ) → ((i : ℕ) → k ≤ i → i < k + n → p (f i) ≡ false) → anyOf p (row f k n) ≡ false
+  unfolding row anyOf
+  row-fails p k zero e = refl
+  row-fails p k (suc n) e = rw (e k (omega arith) (omega arith)) (row-fails p (suc k) n (λ i h m. e i (omega arith) (omega arith)))
+
+  -- no two values of a row are alike
+  pub row-distinct : (alike : A → A → Bool) (k n : ℕ) → ((i j : ℕ) → i < j → j < k + n → alike (f i) (f j) ≡ false) → distinct alike (row f k n) ≡ true
+  unfolding row distinct
+  row-distinct alike k zero e = refl
+  row-distinct alike k (suc n) e =
+      rw (row-fails (alike (f k)) (suc k) n (λ j h m. e k j (omega arith) (omega arith))) (row-distinct alike (suc k) n (λ i j h m. e i j h (omega arith)))
 
   module _ (k n : ℕ) where
     -- one value more of a row that ends before n
@@ -86,13 +124,13 @@ module _ {A : Type 0} (f : ℕ → A) where
       ap (λ (k : ℕ). take k (set l i v)) (add-one i) ∙ take-suc-set l i v h ∙ ap₂ (λ (m : List A) (x : A). m ++ x ∷ []) e (q ∙ ap f (sym (zero-add i)))
       ∙ sym (row-last 0 i) ∙ ap (row f 0) (sym (add-one i))
 
+pub joined-append : {A : Type 0} (g : A → List ℕ) (l m : List A) → joined g (l ++ m) ≡ joined g l ++ joined g m
+unfolding joined
+joined-append g [] m = refl
+joined-append g (x ∷ l) m = ap (λ (r : List ℕ). g x ++ r) (joined-append g l m) ∙ sym (append-assoc (g x) (joined g l) (joined g m))
+
 -- the octets of elements that have w octets each
 module _ {A : Type 0} (g : A → List ℕ) (w : ℕ) (wide : (x : A) → length (g x) ≡ w) where
-  pub joined-append : (l m : List A) → joined g (l ++ m) ≡ joined g l ++ joined g m
-  unfolding joined
-  joined-append [] m = refl
-  joined-append (x ∷ l) m = ap (λ (r : List ℕ). g x ++ r) (joined-append l m) ∙ sym (append-assoc (g x) (joined g l) (joined g m))
-
   pub length-joined : (l : List A) → length (joined g l) ≡ w * length l
   unfolding joined
   length-joined [] = sym (mul-zero w)
@@ -105,7 +143,7 @@ module _ {A : Type 0} (g : A → List ℕ) (w : ℕ) (wide : (x : A) → length 
   joined-stored {b₀} {b} {b′} {at} l i d h done more =
       let before : length (joined g (take i l)) ≡ w * i = length-joined (take i l) ∙ ap (λ (k : ℕ). w * k) (length-take-le i l (omega arith)) in
       let all : joined g (take (i + 1) l) ≡ joined g (take i l) ++ g (getD l i d) =
-      ap (λ (k : ℕ). joined g (take k l)) (add-one i) ∙ ap (joined g) (take-suc l i d h) ∙ joined-append (take i l) (getD l i d ∷ [])
+      ap (λ (k : ℕ). joined g (take k l)) (add-one i) ∙ ap (joined g) (take-suc l i d h) ∙ joined-append g (take i l) (getD l i d ∷ [])
       ∙ ap (λ (r : List ℕ). joined g (take i l) ++ r) (append-nil (g (getD l i d))) in
       subst (λ (r : List ℕ). Wrote b₀ at r b′) (sym all) (then done more (ap (λ (k : ℕ). at + k) (sym before)))
 
@@ -134,3 +172,22 @@ module _ {A : Type 0} (l : List A) (n i : ℕ) (long : n ≤ length l) where
     pub allOf-none : n ≤ i → allOf p (drop i (take n l)) ≡ true
     unfolding allOf
     allOf-none h = rw (left-none h)
+
+    pub anyOf-more : (d : A) → i < n → (t : Bool) → p (getD l i d) ≡ t → anyOf p (drop i (take n l)) ≡ t || anyOf p (drop (i + 1) (take n l))
+    unfolding anyOf
+    anyOf-more d h t e = rw (left-more d h, e)
+
+    pub anyOf-none : n ≤ i → anyOf p (drop i (take n l)) ≡ false
+    unfolding anyOf
+    anyOf-none h = rw (left-none h)
+
+  -- a test of each of them against those behind it
+  module _ (alike : A → A → Bool) where
+    pub distinct-more : (d : A) → i < n → (t : Bool) → anyOf (alike (getD l i d)) (drop (i + 1) (take n l)) ≡ t
+        → distinct alike (drop i (take n l)) ≡ not t && distinct alike (drop (i + 1) (take n l))
+    unfolding distinct
+    distinct-more d h t e = rw (left-more d h, e)
+
+    pub distinct-none : n ≤ i → distinct alike (drop i (take n l)) ≡ true
+    unfolding distinct
+    distinct-none h = rw (left-none h)

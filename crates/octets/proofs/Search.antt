@@ -6,8 +6,8 @@ use mathlib.Core.Path.{_≡_, refl, sym, ap, _∙_, subst}
 use native.Mathlib.Nat.{not-suc-le-zero, le-of-suc-le-suc, eq-or-lt-of-le, le-refl, le-step, le-suc, lt-of-lt-of-le, not-le-of-lt}
 use native.Mathlib.Numerals.{add-one}
 use native.Mathlib.Omega.{arith}
-use lib.Dec.{ltb}
-use borrow.Author.Tests.{lt-ltb, le-ltb, ltb-true, ltb-false}
+use lib.Dec.{ltb, eqb}
+use borrow.Author.Tests.{lt-ltb, le-ltb, ltb-true, ltb-false, eqb-true, eqb-false}
 use Rattle.octets.specs.Search.{all, least}
 
 pub and-left : (a b : Bool) → a && b ≡ true → a ≡ true
@@ -32,6 +32,36 @@ or-left false b e = refl
 pub or-right : (a b : Bool) → a || b ≡ false → b ≡ false
 or-right true b e = absurd (true≢false e)
 or-right false b e = e
+
+pub or-true : (a b : Bool) → b ≡ true → a || b ≡ true
+or-true true b e = refl
+or-true false b e = e
+
+-- a test that fails adds nothing
+pub or-false : (a : Bool) → a || false ≡ true → a ≡ true
+or-false true e = refl
+or-false false e = e
+
+-- a number is k or it isn't
+pub either : {A : Type 0} (n k : ℕ) → (n ≡ k → A) → ((n ≡ k → ⊥) → A) → A
+either {A} n k f g = by-test (eqb n k) refl
+  where
+    by-test : (b : Bool) → eqb n k ≡ b → A
+    by-test true e = f (eqb-true n k e)
+    by-test false e = g (eqb-false n k e)
+
+-- a number is below k or it isn't
+pub lower : {A : Type 0} (n k : ℕ) → (n < k → A) → (k ≤ n → A) → A
+lower {A} n k f g = by-test (ltb n k) refl
+  where
+    by-test : (b : Bool) → ltb n k ≡ b → A
+    by-test true e = f (ltb-true n k e)
+    by-test false e = g (ltb-false n k e)
+
+-- what passes in both cases passes
+pub cond-passes : {A : Type 0} (p : A → Bool) (b : Bool) (x y : A) → p x ≡ true → p y ≡ true → p (cond b x y) ≡ true
+cond-passes p true x y e f = e
+cond-passes p false x y e f = f
 
 pub all-each : (n : ℕ) (p : ℕ → Bool) → all n p ≡ true → (k : ℕ) → k < n → p k ≡ true
 unfolding all

@@ -3,6 +3,5 @@ pub mod Bools
 pub mod Places
 pub mod Phases
 pub mod Writes
-pub mod Stands
 pub mod Reading
 pub mod Writing

@@ -1,32 +1,38 @@
--- A phase in range is read back from its octets, part by part.
-use Prim.Native.Nat.{ℕ, _+_, _^_, _≤_, _<_}
+-- A phase in range is read back from its octets, part by part, and what is read is in range.
+use Prim.Native.Nat.{ℕ, _+_, _≤_, _<_}
 use mathlib.Core.Bool.{true, _&&_, _||_, false≢true}
 use mathlib.Core.List.{List, _++_}
 use mathlib.Core.Path.{_≡_, refl}
 use native.Mathlib.Omega.{arith}
 use lib.Dec.{leb, ltb, eqb}
-use borrow.Author.Tests.{leb-true, ltb-true, eqb-true, ne-eqb}
+use lib.ListN.{length}
+use borrow.Author.Tests.{leb-true, ltb-true, eqb-true, lt-ltb, ne-eqb}
 use Rattle.octets.specs.Digits.{be, digits, field}
+use Rattle.octets.specs.Laws.{below}
 use Rattle.octets.specs.Part.{part, zeros, zerosAt}
-use Rattle.octets.proofs.Search.{and-left, and-right}
+use Rattle.octets.specs.Search.{allOf}
+use Rattle.octets.proofs.Fields.{field-below}
+use Rattle.octets.proofs.Parts.{both}
+use Rattle.octets.proofs.Search.{and-left, and-right, and-true, cond-passes, either}
+use Rattle.octets.proofs.Stands.{Stands, from-part, before, behind, says, zeros-stand}
 use Rattle.network.specs.declared.MaybePlmn.{MaybePlmn}
 use Rattle.network.specs.declared.MaybePlmn.the-variants.{Is, None}
 use Rattle.address.specs.declared.Address.{Address}
-use Rattle.address.specs.declared.Address.the-variants.{V4, V6}
-use Rattle.addresses.specs.Addresses.{addressOctets, addressFrom, isAddress, versionFrom}
+use Rattle.addresses.specs.Addresses.{addressOctets, addressFrom, isAddress}
+use Rattle.addresses.specs.Laws.{addressHeld}
+use Rattle.addresses.proofs.RoundTrip as Addresses
+use Rattle.addresses.proofs.Widths.{address-wide}
 use Rattle.place.specs.declared.Facts.{Facts}
 use Rattle.place.specs.declared.Place.{Place}
 use Rattle.place.specs.declared.Place.the-variants.{Unknown, Home, Abroad}
 use Rattle.phase.specs.Facts.{placeOctets, placeFrom, placeFits, placeWritten, registeredOctets, registeredFrom, registeredFits, registeredWritten, factsOctets, factsFrom, factsFit, factsWritten}
-use Rattle.phase.specs.Laws.{addressHeld, turnHeld, phaseHeld}
+use Rattle.phase.specs.Laws.{turnHeld, phaseHeld}
 use Rattle.phase.specs.Phase.{asking, having, isAbroad, phaseFits, phaseFrom, phaseOctets, phaseWritten, turnFrom, turnOctets, turnWritten}
 use Rattle.phase.specs.declared.Phase.{Phase}
 use Rattle.phase.specs.declared.Phase.the-variants.{Idle, Country, Name, Chosen, Init, Auth, Eap, Sure, Live}
 use Rattle.phase.specs.declared.Turn.{Turn}
 use Rattle.phase.specs.declared.Turn.the-variants.{First, Owed, Answered}
-use Rattle.phase.proofs.Stands.{Stands, from-part, before, behind, says, zeros-stand, either}
-use Rattle.phase.proofs.Writes.{both, place-length, registered-length, facts-length}
-use Rattle.addresses.proofs.Widths.{address-wide}
+use Rattle.phase.proofs.Writes.{place-length, registered-length, facts-length}
 
 -- a local IP version fits its octet
 version-small : (v : ℕ) → eqb v 4 || eqb v 6 ≡ true → v < 256
@@ -65,21 +71,6 @@ module _ (l : List ℕ) (at : ℕ) {r : List ℕ} where
       let country : field l (at + 1) 2 ≡ p .mcc = says 2 (p .mcc) (omega arith) (behind (be 1 1) (be 2 (p .mcc)) 1 refl two) in
       let network : field l (at + 3) 2 ≡ p .mnc = says 2 (p .mnc) (omega arith) (behind (be 1 1 ++ be 2 (p .mcc)) (be 2 (p .mnc)) 3 refl e) in
       (rw (kind, country, network), rw kind)
-
-  address-back : (a : Address) → addressHeld a ≡ true → Stands l at (addressOctets a) r → (addressFrom l at ≡ a) × (isAddress l at ≡ true)
-  unfolding addressOctets addressFrom addressHeld isAddress versionFrom be digits zeros
-  address-back (V4 x) h e =
-      let two = before (be 1 4 ++ be 4 x) (zeros 12) e in
-      let version : field l at 1 ≡ 4 = says 1 4 (omega arith) (before (be 1 4) (be 4 x) two) in
-      let number : field l (at + 1) 4 ≡ x = says 4 x (ltb-true x (2 ^ 32) h) (behind (be 1 4) (be 4 x) 1 refl two) in
-      let none : zerosAt l (at + 5) 12 ≡ true = zeros-stand 12 (behind (be 1 4 ++ be 4 x) (zeros 12) 5 refl e) in
-      (rw (version, number), rw (version, none))
-  address-back (V6 x y) h e =
-      let two = before (be 1 6 ++ be 8 x) (be 8 y) e in
-      let version : field l at 1 ≡ 6 = says 1 6 (omega arith) (before (be 1 6) (be 8 x) two) in
-      let high : field l (at + 1) 8 ≡ x = says 8 x (ltb-true x (2 ^ 64) (and-left (ltb x (2 ^ 64)) (ltb y (2 ^ 64)) h)) (behind (be 1 6) (be 8 x) 1 refl two) in
-      let low : field l (at + 9) 8 ≡ y = says 8 y (ltb-true y (2 ^ 64) (and-right (ltb x (2 ^ 64)) (ltb y (2 ^ 64)) h)) (behind (be 1 6 ++ be 8 x) (be 8 y) 9 refl e) in
-      (rw (version, high, low), rw version)
 
   -- how far an EAP session is, by its first octet
   two-octets : (n i : ℕ) → n < 256 → ltb i 256 ≡ true → Stands l at (be 1 n ++ be 1 i) r → (field l at 1 ≡ n) × (field l (at + 1) 1 ≡ i)
@@ -129,7 +120,7 @@ module _ (l : List ℕ) (at : ℕ) {r : List ℕ} (n : ℕ) (octet : n < 256) wh
   unfolding be digits
   having-back a h b e =
       let two = before (be 1 n ++ addressOctets a) b e in
-      let address = address-back l (at + 1) a h (behind (be 1 n) (addressOctets a) 1 refl two) in
+      let address = Addresses.address-back l (at + 1) a h (behind (be 1 n) (addressOctets a) 1 refl two) in
       let rest = behind (be 1 n ++ addressOctets a) b 18 (both (be 1 n) (addressOctets a) 1 17 refl (address-wide a)) e in
       (says 1 n (omega arith) (before (be 1 n) (addressOctets a) two), address .0, address .1, rest)
 
@@ -167,3 +158,28 @@ module _ (l : List ℕ) (at : ℕ) where
 pub read-back : (l : List ℕ) (at : ℕ) (p : Phase) → phaseFits p ≡ true → phaseHeld p ≡ true → part l at 20 ≡ phaseOctets p
     → (phaseFrom l at ≡ p) × (phaseWritten l at ≡ true)
 read-back l at p g h e = phase-back l at p g h (from-part l at 20 (phaseOctets p) e)
+
+-- what is read from octets fits them
+turn-held : (l : List ℕ) (at : ℕ) → allOf (below 256) l ≡ true → at + 2 ≤ length l → turnHeld (turnFrom l at) ≡ true
+unfolding turnFrom turnHeld
+turn-held l at octets fits =
+    let i = field l (at + 1) 1 in
+    let small : ltb i 256 ≡ true = lt-ltb i 256 (field-below l octets (at + 1) 1 (omega arith)) in
+    cond-passes turnHeld (eqb (field l at 1) 1) (First i) _ small (cond-passes turnHeld (eqb (field l at 1) 2) (Owed i) (Answered i) small small)
+
+pub held : (l : List ℕ) (at : ℕ) → allOf (below 256) l ≡ true → at + 20 ≤ length l → phaseHeld (phaseFrom l at) ≡ true
+unfolding phaseFrom phaseHeld
+held l at octets fits =
+    let n = field l at 1 in
+    let f = factsFrom l (at + 1) in
+    let a = addressFrom l (at + 1) in
+    let t = turnFrom l (at + 18) in
+    let h : addressHeld a ≡ true = Addresses.held l (at + 1) octets (omega arith) in
+    let eap : addressHeld a && turnHeld t ≡ true = and-true (addressHeld a) (turnHeld t) h (turn-held l (at + 18) octets (omega arith)) in
+    cond-passes phaseHeld (eqb n 0) Idle _ refl
+    (cond-passes phaseHeld (eqb n 1) (Country f) _ refl
+    (cond-passes phaseHeld (eqb n 2) (Name f) _ refl
+    (cond-passes phaseHeld (eqb n 3) (Chosen a) _ h
+    (cond-passes phaseHeld (eqb n 4) (Init a) _ h
+    (cond-passes phaseHeld (eqb n 5) (Auth a) _ h
+    (cond-passes phaseHeld (eqb n 6) (Eap a t) _ eap (cond-passes phaseHeld (eqb n 7) (Sure a) (Live a) h h)))))))

@@ -1,15 +1,17 @@
--- Runs of writes that make place facts and phases, each where the one before it ends.
+-- What place facts and phases are written as, and the runs of writes that make them, each where the one before it ends.
 use Prim.Native.Nat.{ℕ, _+_}
 use mathlib.Core.List.{List, _++_}
-use mathlib.Core.Path.{_≡_, refl, sym, ap, ap₂, _∙_}
-use lib.ListN.{length, length-append}
+use mathlib.Core.Path.{_≡_, refl, sym, ap}
+use lib.ListN.{length}
 use Rattle.octets.specs.Digits.{be, digits}
 use Rattle.octets.specs.Part.{zeros, Wrote}
-use Rattle.octets.proofs.Parts.{then}
+use Rattle.octets.proofs.Octets.{Octets, joins, be-octets, zeros-octets}
+use Rattle.octets.proofs.Parts.{both, then}
 use Rattle.network.specs.declared.MaybePlmn.{MaybePlmn}
 use Rattle.network.specs.declared.MaybePlmn.the-variants.{Is, None}
 use Rattle.address.specs.declared.Address.{Address}
 use Rattle.addresses.specs.Addresses.{addressOctets}
+use Rattle.addresses.proofs.RoundTrip as Addresses
 use Rattle.addresses.proofs.Widths.{address-wide}
 use Rattle.place.specs.declared.Facts.{Facts}
 use Rattle.place.specs.declared.Place.{Place}
@@ -31,10 +33,6 @@ pub registered-length : (p : MaybePlmn) → length (registeredOctets p) ≡ 5
 unfolding registeredOctets be digits
 registered-length None = refl
 registered-length (Is p) = refl
-
--- the length of two runs, one behind the other
-pub both : (a b : List ℕ) (m n : ℕ) → length a ≡ m → length b ≡ n → length (a ++ b) ≡ m + n
-both a b m n e f = length-append a b ∙ ap₂ (λ (i j : ℕ). i + j) e f
 
 pub facts-length : (f : Facts) → length (factsOctets f) ≡ 9
 unfolding factsOctets be digits
@@ -68,6 +66,46 @@ phase-length (Auth a) = having-length 5 a
 phase-length (Eap a t) = both (be 1 6 ++ addressOctets a) (turnOctets t) 18 2 (both (be 1 6) (addressOctets a) 1 17 refl (address-wide a)) (turn-length t)
 phase-length (Sure a) = having-length 7 a
 phase-length (Live a) = having-length 8 a
+
+octets-of-place : (p : Place) → Octets (placeOctets p)
+unfolding placeOctets
+octets-of-place Unknown = joins (be-octets 1 0) (be-octets 2 0)
+octets-of-place Home = joins (be-octets 1 1) (be-octets 2 0)
+octets-of-place (Abroad mcc) = joins (be-octets 1 2) (be-octets 2 mcc)
+
+octets-of-registered : (p : MaybePlmn) → Octets (registeredOctets p)
+unfolding registeredOctets
+octets-of-registered None = joins (joins (be-octets 1 0) (be-octets 2 0)) (be-octets 2 0)
+octets-of-registered (Is p) = joins (joins (be-octets 1 1) (be-octets 2 (p .mcc))) (be-octets 2 (p .mnc))
+
+octets-of-turn : (t : Turn) → Octets (turnOctets t)
+unfolding turnOctets
+octets-of-turn (First i) = joins (be-octets 1 1) (be-octets 1 i)
+octets-of-turn (Owed i) = joins (be-octets 1 2) (be-octets 1 i)
+octets-of-turn (Answered i) = joins (be-octets 1 3) (be-octets 1 i)
+
+octets-of-asking : (n : ℕ) (f : Facts) → Octets (asking n f)
+unfolding asking factsOctets
+octets-of-asking n f =
+    let facts : Octets (factsOctets f) = joins (joins (octets-of-place (f .place)) (octets-of-registered (f .registered))) (be-octets 1 (f .version)) in
+    joins (joins (be-octets 1 n) facts) (zeros-octets 10)
+
+octets-of-having : (n : ℕ) (a : Address) → Octets (having n a)
+unfolding having
+octets-of-having n a = joins (joins (be-octets 1 n) (Addresses.octets a)) (zeros-octets 2)
+
+-- every octet of a phase is one
+pub octets : (p : Phase) → Octets (phaseOctets p)
+unfolding phaseOctets
+octets Idle = zeros-octets 20
+octets (Country f) = octets-of-asking 1 f
+octets (Name f) = octets-of-asking 2 f
+octets (Chosen a) = octets-of-having 3 a
+octets (Init a) = octets-of-having 4 a
+octets (Auth a) = octets-of-having 5 a
+octets (Eap a t) = joins (joins (be-octets 1 6) (Addresses.octets a)) (octets-of-turn t)
+octets (Sure a) = octets-of-having 7 a
+octets (Live a) = octets-of-having 8 a
 
 -- three writes, where the lengths of the first two are known
 module _ {l m n o : List ℕ} {at : ℕ} {a b c : List ℕ} (i j : ℕ) (first : length a ≡ i) (second : length b ≡ j) where

@@ -1,8 +1,8 @@
 -- A phase is written back as the octets that it was read from, part by part.
 use Prim.Native.Nat.{ℕ, _+_, _≤_, _<_}
-use mathlib.Core.Bool.{Bool, true, false, _&&_, _||_}
+use mathlib.Core.Bool.{true, _&&_}
 use mathlib.Core.List.{List, _++_}
-use mathlib.Core.Path.{_≡_, refl, sym, ap, ap₂, _∙_}
+use mathlib.Core.Path.{_≡_, refl, sym}
 use native.Mathlib.Omega.{arith}
 use lib.Dec.{leb, eqb}
 use lib.ListN.{length}
@@ -11,18 +11,12 @@ use Rattle.octets.specs.Digits.{be, digits, field}
 use Rattle.octets.specs.Laws.{below}
 use Rattle.octets.specs.Part.{part, zeros, zerosAt}
 use Rattle.octets.specs.Search.{allOf}
-use Rattle.octets.proofs.Fields.{be-field, part-join}
-use Rattle.octets.proofs.Parts.{same-equal}
-use Rattle.octets.proofs.Search.{and-left, and-right}
-use Rattle.addresses.specs.Addresses.{addressOctets, addressFrom, isAddress, versionFrom}
+use Rattle.octets.proofs.Fields.{follow, number-back, zeros-back}
+use Rattle.octets.proofs.Search.{and-left, and-right, either}
+use Rattle.addresses.specs.Addresses.{addressOctets, addressFrom, isAddress}
+use Rattle.addresses.proofs.RoundTrip.{address-octets}
 use Rattle.phase.specs.Facts.{placeOctets, placeFrom, placeWritten, registeredOctets, registeredFrom, registeredWritten, factsOctets, factsFrom, factsWritten}
 use Rattle.phase.specs.Phase.{asking, having, phaseFrom, phaseOctets, phaseWritten, turnFrom, turnOctets, turnWritten}
-use Rattle.phase.proofs.Stands.{either}
-
--- a test that fails adds nothing
-or-false : (a : Bool) → a || false ≡ true → a ≡ true
-or-false true e = refl
-or-false false e = e
 
 above-2 : (n : ℕ) → (n ≡ 0 → ⊥) → (n ≡ 1 → ⊥) → (n ≡ 2 → ⊥) → 2 < n
 above-2 n f g h = omega arith
@@ -32,34 +26,22 @@ is-8 : (n : ℕ) → 2 < n → n ≤ 8 → (n ≡ 3 → ⊥) → (n ≡ 4 → �
 is-8 n low high f g h i j = omega arith
 
 module _ (l : List ℕ) (octets : allOf (below 256) l ≡ true) where
-  -- octets that follow one another
-  follow : (at a b : ℕ) {vs ws : List ℕ} → vs ≡ part l at a → ws ≡ part l (at + a) b → vs ++ ws ≡ part l at (a + b)
-  follow at a b e f = ap₂ (λ (x y : List ℕ). x ++ y) e f ∙ part-join l at a b
-
-  -- a field is written as its octets
-  back : (at w x : ℕ) → at + w ≤ length l → field l at w ≡ x → be w x ≡ part l at w
-  back at w x h e = ap (be w) (sym e) ∙ be-field l octets at w h
-
-  zeros-back : (at n : ℕ) → zerosAt l at n ≡ true → zeros n ≡ part l at n
-  unfolding zerosAt
-  zeros-back at n e = sym (same-equal (part l at n) (zeros n) e)
-
   module _ (at : ℕ) (fits : at + 3 ≤ length l) (w : placeWritten l at ≡ true) where
     place-octets : placeOctets (placeFrom l at) ≡ part l at 3
     unfolding placeOctets placeFrom placeWritten be digits zeros
     place-octets = either (field l at 1) 1 home (λ n. either (field l at 1) 2 abroad (λ m. unknown n m))
       where
         home : field l at 1 ≡ 1 → placeOctets (placeFrom l at) ≡ part l at 3
-        home e = rw e (follow at 1 2 (back at 1 1 (omega arith) e) (zeros-back (at + 1) 2 (rw e at w)))
+        home e = rw e (follow l at 1 2 (number-back l octets at 1 1 (omega arith) e) (zeros-back l (at + 1) 2 (rw e at w)))
 
         abroad : field l at 1 ≡ 2 → placeOctets (placeFrom l at) ≡ part l at 3
-        abroad e = rw e (follow at 1 2 (back at 1 2 (omega arith) e) (back (at + 1) 2 (field l (at + 1) 2) (omega arith) refl))
+        abroad e = rw e (follow l at 1 2 (number-back l octets at 1 2 (omega arith) e) (number-back l octets (at + 1) 2 (field l (at + 1) 2) (omega arith) refl))
 
         unknown : (field l at 1 ≡ 1 → ⊥) → (field l at 1 ≡ 2 → ⊥) → placeOctets (placeFrom l at) ≡ part l at 3
         unknown n m =
             let low : leb (field l at 1) 1 && zerosAt l (at + 1) 2 ≡ true = rw (ne-eqb (field l at 1) 2 m) at w in
             let e : field l at 1 ≡ 0 = omega (arith, leb-true (field l at 1) 1 (and-left (leb (field l at 1) 1) (zerosAt l (at + 1) 2) low)) in
-            rw e (follow at 1 2 (back at 1 0 (omega arith) e) (zeros-back (at + 1) 2 (and-right (leb (field l at 1) 1) (zerosAt l (at + 1) 2) low)))
+            rw e (follow l at 1 2 (number-back l octets at 1 0 (omega arith) e) (zeros-back l (at + 1) 2 (and-right (leb (field l at 1) 1) (zerosAt l (at + 1) 2) low)))
 
   module _ (at : ℕ) (fits : at + 5 ≤ length l) (w : registeredWritten l at ≡ true) where
     registered-octets : registeredOctets (registeredFrom l at) ≡ part l at 5
@@ -69,81 +51,65 @@ module _ (l : List ℕ) (octets : allOf (below 256) l ≡ true) where
         plmn : field l at 1 ≡ 1 → registeredOctets (registeredFrom l at) ≡ part l at 5
         plmn e =
             rw e
-            (follow at 3 2 (follow at 1 2 (back at 1 1 (omega arith) e) (back (at + 1) 2 (field l (at + 1) 2) (omega arith) refl)) (back (at + 3) 2 (field l (at + 3) 2) (omega arith) refl))
+            (follow l at 3 2 (follow l at 1 2 (number-back l octets at 1 1 (omega arith) e) (number-back l octets (at + 1) 2 (field l (at + 1) 2) (omega arith) refl)) (number-back l octets (at + 3) 2 (field l (at + 3) 2) (omega arith) refl))
 
         none : (field l at 1 ≡ 1 → ⊥) → registeredOctets (registeredFrom l at) ≡ part l at 5
         none n =
             let empty : eqb (field l at 1) 0 && zerosAt l (at + 1) 4 ≡ true = rw (ne-eqb (field l at 1) 1 n) at w in
             let e : field l at 1 ≡ 0 = eqb-true (field l at 1) 0 (and-left (eqb (field l at 1) 0) (zerosAt l (at + 1) 4) empty) in
-            rw e (follow at 1 4 (back at 1 0 (omega arith) e) (zeros-back (at + 1) 4 (and-right (eqb (field l at 1) 0) (zerosAt l (at + 1) 4) empty)))
+            rw e (follow l at 1 4 (number-back l octets at 1 0 (omega arith) e) (zeros-back l (at + 1) 4 (and-right (eqb (field l at 1) 0) (zerosAt l (at + 1) 4) empty)))
 
   facts-octets : (at : ℕ) → at + 9 ≤ length l → factsWritten l at ≡ true → factsOctets (factsFrom l at) ≡ part l at 9
   unfolding factsOctets factsFrom factsWritten
   facts-octets at h w =
       let place = place-octets at (omega arith) (and-left (placeWritten l at) (registeredWritten l (at + 3)) w) in
       let registered = registered-octets (at + 3) (omega arith) (and-right (placeWritten l at) (registeredWritten l (at + 3)) w) in
-      follow at 8 1 (follow at 3 5 place registered) (back (at + 8) 1 (field l (at + 8) 1) (omega arith) refl)
-
-  module _ (at : ℕ) (fits : at + 17 ≤ length l) (w : isAddress l at ≡ true) where
-    address-octets : addressOctets (addressFrom l at) ≡ part l at 17
-    unfolding addressOctets addressFrom isAddress versionFrom
-    address-octets = either (field l at 1) 4 four six
-      where
-        four : field l at 1 ≡ 4 → addressOctets (addressFrom l at) ≡ part l at 17
-        four e =
-            rw e
-            (follow at 5 12 (follow at 1 4 (back at 1 4 (omega arith) e) (back (at + 1) 4 (field l (at + 1) 4) (omega arith) refl)) (zeros-back (at + 5) 12 (rw e at w)))
-
-        six : (field l at 1 ≡ 4 → ⊥) → addressOctets (addressFrom l at) ≡ part l at 17
-        six n =
-            let e : field l at 1 ≡ 6 = eqb-true (field l at 1) 6 (or-false (eqb (field l at 1) 6) (rw (ne-eqb (field l at 1) 4 n) at w)) in
-            rw e
-            (follow at 9 8 (follow at 1 8 (back at 1 6 (omega arith) e) (back (at + 1) 8 (field l (at + 1) 8) (omega arith) refl)) (back (at + 9) 8 (field l (at + 9) 8) (omega arith) refl))
+      follow l at 8 1 (follow l at 3 5 place registered) (number-back l octets (at + 8) 1 (field l (at + 8) 1) (omega arith) refl)
 
   module _ (at : ℕ) (fits : at + 2 ≤ length l) (w : turnWritten l at ≡ true) where
     identifier : be 1 (field l (at + 1) 1) ≡ part l (at + 1) 1
-    identifier = back (at + 1) 1 (field l (at + 1) 1) (omega arith) refl
+    identifier = number-back l octets (at + 1) 1 (field l (at + 1) 1) (omega arith) refl
 
     turn-octets : turnOctets (turnFrom l at) ≡ part l at 2
     unfolding turnOctets turnFrom turnWritten
     turn-octets = either (field l at 1) 1 first (λ n. either (field l at 1) 2 owed (λ m. answered n m))
       where
         first : field l at 1 ≡ 1 → turnOctets (turnFrom l at) ≡ part l at 2
-        first e = rw e (follow at 1 1 (back at 1 1 (omega arith) e) identifier)
+        first e = rw e (follow l at 1 1 (number-back l octets at 1 1 (omega arith) e) identifier)
 
         owed : field l at 1 ≡ 2 → turnOctets (turnFrom l at) ≡ part l at 2
-        owed e = rw e (follow at 1 1 (back at 1 2 (omega arith) e) identifier)
+        owed e = rw e (follow l at 1 1 (number-back l octets at 1 2 (omega arith) e) identifier)
 
         answered : (field l at 1 ≡ 1 → ⊥) → (field l at 1 ≡ 2 → ⊥) → turnOctets (turnFrom l at) ≡ part l at 2
         answered n m =
             let low : 1 ≤ field l at 1 = leb-true 1 (field l at 1) (and-left (leb 1 (field l at 1)) (leb (field l at 1) 3) w) in
             let high : field l at 1 ≤ 3 = leb-true (field l at 1) 3 (and-right (leb 1 (field l at 1)) (leb (field l at 1) 3) w) in
             let e : field l at 1 ≡ 3 = omega arith in
-            rw e (follow at 1 1 (back at 1 3 (omega arith) e) identifier)
+            rw e (follow l at 1 1 (number-back l octets at 1 3 (omega arith) e) identifier)
 
   -- the phases, by number
   module _ (at : ℕ) (fits : at + 20 ≤ length l) where
     idle-octets : field l at 1 ≡ 0 → zerosAt l (at + 1) 19 ≡ true → zeros 20 ≡ part l at 20
     unfolding be digits zeros
-    idle-octets e w = follow at 1 19 (back at 1 0 (omega arith) e) (zeros-back (at + 1) 19 w)
+    idle-octets e w = follow l at 1 19 (number-back l octets at 1 0 (omega arith) e) (zeros-back l (at + 1) 19 w)
 
     asking-octets : (n : ℕ) → field l at 1 ≡ n → factsWritten l (at + 1) && zerosAt l (at + 10) 10 ≡ true → asking n (factsFrom l (at + 1)) ≡ part l at 20
     unfolding asking
     asking-octets n e w =
         let facts = facts-octets (at + 1) (omega arith) (and-left (factsWritten l (at + 1)) (zerosAt l (at + 10) 10) w) in
-        follow at 10 10 (follow at 1 9 (back at 1 n (omega arith) e) facts) (zeros-back (at + 10) 10 (and-right (factsWritten l (at + 1)) (zerosAt l (at + 10) 10) w))
+        follow l at 10 10 (follow l at 1 9 (number-back l octets at 1 n (omega arith) e) facts) (zeros-back l (at + 10) 10 (and-right (factsWritten l (at + 1)) (zerosAt l (at + 10) 10) w))
 
     having-octets : (n : ℕ) → field l at 1 ≡ n → isAddress l (at + 1) && zerosAt l (at + 18) 2 ≡ true → having n (addressFrom l (at + 1)) ≡ part l at 20
     unfolding having
     having-octets n e w =
-        let address = address-octets (at + 1) (omega arith) (and-left (isAddress l (at + 1)) (zerosAt l (at + 18) 2) w) in
-        follow at 18 2 (follow at 1 17 (back at 1 n (omega arith) e) address) (zeros-back (at + 18) 2 (and-right (isAddress l (at + 1)) (zerosAt l (at + 18) 2) w))
+        let address = address-octets l octets (at + 1) (omega arith) (and-left (isAddress l (at + 1)) (zerosAt l (at + 18) 2) w) in
+        follow l at 18 2 (follow l at 1 17 (number-back l octets at 1 n (omega arith) e) address) (zeros-back l (at + 18) 2 (and-right (isAddress l (at + 1)) (zerosAt l (at + 18) 2) w))
 
     eap-octets : field l at 1 ≡ 6 → isAddress l (at + 1) && turnWritten l (at + 18) ≡ true → be 1 6 ++ addressOctets (addressFrom l (at + 1)) ++ turnOctets (turnFrom l (at + 18)) ≡ part l at 20
     eap-octets e w =
-        let address = address-octets (at + 1) (omega arith) (and-left (isAddress l (at + 1)) (turnWritten l (at + 18)) w) in
+        let address = address-octets l octets (at + 1) (omega arith) (and-left (isAddress l (at + 1)) (turnWritten l (at + 18)) w) in
         let turn = turn-octets (at + 18) (omega arith) (and-right (isAddress l (at + 1)) (turnWritten l (at + 18)) w) in
-        follow at 18 2 (follow at 1 17 (back at 1 6 (omega arith) e) address) turn
+        follow l at 18 2 (follow l at 1 17 (number-back l octets at 1 6 (omega arith) e) address) turn
 
     module _ (w : phaseWritten l at ≡ true) where
       abbrev N : ℕ

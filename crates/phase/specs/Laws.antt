@@ -1,5 +1,5 @@
 -- Writing and reading phases undo each other; the function `laws` promises it.
-use Prim.Native.Nat.{ℕ, _+_, _^_, _≤_}
+use Prim.Native.Nat.{ℕ, _+_, _≤_}
 use mathlib.Core.Bool.{Bool, true, _&&_}
 use mathlib.Core.List.{List}
 use mathlib.Core.Path.{_≡_}
@@ -8,18 +8,12 @@ use lib.ListN.{length}
 use Rattle.octets.specs.Laws.{below}
 use Rattle.octets.specs.Part.{part}
 use Rattle.octets.specs.Search.{allOf}
-use Rattle.address.specs.declared.Address.{Address}
-use Rattle.address.specs.declared.Address.the-variants.{V4, V6}
+use Rattle.addresses.specs.Laws.{addressHeld}
 use Rattle.phase.specs.Phase.{phaseFits, phaseFrom, phaseOctets, phaseWritten}
 use Rattle.phase.specs.declared.Phase.{Phase}
 use Rattle.phase.specs.declared.Phase.the-variants.{Idle, Country, Name, Chosen, Init, Auth, Eap, Sure, Live}
 use Rattle.phase.specs.declared.Turn.{Turn}
 use Rattle.phase.specs.declared.Turn.the-variants.{First, Owed, Answered}
-
--- an address of 32 bits, or of two halves of 64
-unfoldable pub addressHeld : Address → Bool
-addressHeld (V4 x) = ltb x (2 ^ 32)
-addressHeld (V6 h l) = ltb h (2 ^ 64) && ltb l (2 ^ 64)
 
 -- an identifier of one octet
 unfoldable pub turnHeld : Turn → Bool
@@ -48,3 +42,5 @@ pub record Laws : Type 0 where
   -- a phase is written back as the octets that it was read from
   pub write-back : (l : List ℕ) (at : ℕ) → allOf (below 256) l ≡ true → at + 20 ≤ length l → phaseWritten l at ≡ true
       → part l at 20 ≡ phaseOctets (phaseFrom l at)
+  -- a phase that is read from octets has an address and an identifier that fit theirs
+  pub held : (l : List ℕ) (at : ℕ) → allOf (below 256) l ≡ true → at + 20 ≤ length l → phaseHeld (phaseFrom l at) ≡ true

@@ -9,6 +9,7 @@ use native.Mathlib.Omega.{arith}
 use lib.Dec.{ltb}
 use lib.ListN.{length, getD, take, drop}
 use borrow.Author.Tests.{le-leb, lt-leb, lt-ltb}
+use Rattle.octets.specs.Search.{anyOf}
 use Rattle.octets.specs.Row.{row, keep, only}
 use Rattle.octets.proofs.Rows.{row-more, row-done, left-more, left-none}
 use Rattle.network.specs.Plmn.{samePlmn, among}
@@ -24,12 +25,12 @@ use Rattle.place.specs.declared.Place.{Place}
 module _ (f : ℕ → Plmn) (i n : ℕ) (p : Plmn) where
   -- the next network decides first
   pub among-more : i < n → (t : Bool) → samePlmn p (f i) ≡ t → among p (row f i (n - i)) ≡ t || among p (row f (i + 1) (n - (i + 1)))
-  unfolding among
+  unfolding among anyOf
   among-more h t e = rw (row-more f i n h, e)
 
   -- none is left
   pub among-done : n ≤ i → among p (row f i (n - i)) ≡ false
-  unfolding among
+  unfolding among anyOf
   among-done h = rw (row-done f i n h)
 
 -- a list has networks exactly if it has four octets

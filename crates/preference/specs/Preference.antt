@@ -1,5 +1,4 @@
 -- What a configuration says of networks: provisioned, barred, preferred, and the pick among those that a country answer offers.
-use Prim.Native.Nat.{ℕ}
 use mathlib.Core.Bool.{Bool, true, false, cond, not, _&&_, _||_}
 use mathlib.Core.List.{List, [], _∷_, map}
 use mathlib.Core.Option.{Option, none, some}

@@ -2,3 +2,4 @@
 pub mod Lines
 pub mod Sounds
 pub mod Writing
+pub mod RoundTrip

@@ -2,7 +2,7 @@
 use Prim.Native.Nat.{ℕ, _+_, _-_, _*_, _≤_, _<_}
 use mathlib.Core.Bool.{Bool, true, false, _&&_, _||_}
 use mathlib.Core.List.{List, [], _∷_, map}
-use mathlib.Core.Path.{_≡_, refl, sym, ap, _∙_, subst}
+use mathlib.Core.Path.{_≡_, refl, sym, ap, _∙_}
 use native.Mathlib.Nat.{suc-ne-zero}
 use native.Mathlib.Omega.{arith}
 use lib.Dec.{leb, eqb}
@@ -10,7 +10,7 @@ use lib.ListN.{length}
 use borrow.Author.Tests.{le-leb, lt-leb, leb-true, eq-eqb, ne-eqb}
 use Rattle.octets.specs.Digits.{field}
 use Rattle.octets.specs.Part.{zerosAt}
-use Rattle.octets.specs.Search.{all, allOf}
+use Rattle.octets.specs.Search.{all, allOf, distinct}
 use Rattle.octets.proofs.Search.{and-left, and-right, and-true, and-false}
 use Rattle.address.specs.Address.{addressIn}
 use Rattle.address.specs.declared.Hold.{Hold}
@@ -32,7 +32,7 @@ module _ (p : Phase) (cs : List Child) (n : ℕ) (size : length cs ≡ n) (few :
       sym (rw (le-leb (length cs) 8 within, e))
 
 pub other-children : (p : Phase) (cs : List Child) (n : ℕ) → length cs ≡ n → n ≤ 8 → isLive p ≡ false → eqb n 0 ≡ childrenSound p cs
-unfolding childrenSound spisDiffer
+unfolding childrenSound spisDiffer distinct
 other-children p [] n size few e = eq-eqb n 0 (sym size) ∙ sym (rw e)
 other-children p (c ∷ cs) n size few e =
     let within : length (c ∷ cs) ≤ 8 = omega arith in
@@ -151,12 +151,18 @@ module _ (l : List ℕ) where
             sound-is : listsSound (lineFrom l .time) (lineFrom l .phase) (lineFrom l .holds) (lineFrom l .children) ≡ isRecord l
             sound-is = sym (rw (le-leb 1 (field l 0 1) low, le-leb (field l 0 1) 64 high, all-written, fits-is))
 
+-- what a sound record does not use is zero
+pub record-line : (l : List ℕ) → isRecord l ≡ true → lineWritten l ≡ true
+unfolding isRecord
+record-line l e =
+    let pairs = leb 1 (field l 0 1) && leb (field l 0 1) 64 in
+    and-right pairs (lineWritten l) (and-left (pairs && lineWritten l) (lineSound (lineFrom l)) e)
+
 -- what a sound record's lists do not use is zero
 pub record-lists : (l : List ℕ) → isRecord l ≡ true → listsWritten l ≡ true
-unfolding isRecord lineWritten listsWritten
+unfolding lineWritten listsWritten
 record-lists l e =
-    let pairs = leb 1 (field l 0 1) && leb (field l 0 1) 64 in
     let holds = holdsWritten l 27 (field l 25 1) in
     let children = childrenWritten l 203 (field l 26 1) in
-    let written : lineWritten l ≡ true = and-right pairs (lineWritten l) (and-left (pairs && lineWritten l) (lineSound (lineFrom l)) e) in
+    let written : lineWritten l ≡ true = record-line l e in
     and-true holds children (and-right (phaseWritten l 5) holds (and-left (phaseWritten l 5 && holds) children written)) (and-right (phaseWritten l 5 && holds) children written)

@@ -3,3 +3,4 @@ pub mod Line
 pub mod Octets
 pub mod Sound
 pub mod Branch
+pub mod Laws

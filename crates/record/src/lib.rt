@@ -20,6 +20,7 @@ ghost use lib.ListN.{length, take};
 ghost use Rattle.octets.specs.Digits.{be, field};
 ghost use Rattle.octets.specs.Part.{Wrote};
 ghost use Rattle.phase.specs.Phase.{phaseOctets};
+ghost use Rattle.record.specs.Laws.{Laws};
 ghost use Rattle.record.specs.Line.{lineOf};
 ghost use Rattle.record.specs.Octets.{lineFrom, recordOctets};
 
@@ -105,3 +106,8 @@ pub fn put_record(b: &mut [u8], pair: u64, r: Record)
         r.child_count,
     );
 }
+
+// Does nothing; its promise is that writing and reading undo each other.
+pub fn laws()
+    ensures { λ _. ⌜ Laws ⌝ }
+{}

@@ -1,6 +1,5 @@
 -- Document 01's starred example of a later reply: identifier 7, no AN-parameters, NAS 7E.
-use Prim.Native.Nat.{ℕ}
-use mathlib.Core.List.{List, [], _∷_}
+use mathlib.Core.List.{[], _∷_}
 use mathlib.Core.Path.{_≡_, refl}
 use Rattle.octets.specs.Digits.{be, digits}
 use Rattle.eap.specs.Examples.{laterReply}

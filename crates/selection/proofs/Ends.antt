@@ -1,12 +1,13 @@
 -- Selection stops exactly where the step reached has nothing that is permitted.
-use Prim.Native.Nat.{ℕ, suc}
+use Prim.Native.Nat.{ℕ}
 use mathlib.Core.Bool.{Bool, true, false, cond, _&&_, _||_, false≢true, true≢false}
 use mathlib.Core.List.{List, [], _∷_}
 use mathlib.Core.Option.{Option, none, some}
-use mathlib.Core.Path.{_≡_, refl, sym, ap, ap₂, _∙_, subst}
+use mathlib.Core.Path.{_≡_, refl, sym, ap, ap₂, _∙_}
 use lib.Dec.{eqb}
 use lib.ListN.{drop}
 use borrow.Author.Tests.{eq-eqb, eqb-true}
+use Rattle.octets.specs.Search.{anyOf}
 use Rattle.octets.specs.Row.{place, first, keep, only}
 use Rattle.octets.proofs.Search.{and-left, and-right, and-true}
 use Rattle.network.specs.Plmn.{samePlmn, among}
@@ -24,7 +25,6 @@ use Rattle.place.specs.declared.Place.the-variants.{Unknown, Home, Abroad}
 use Rattle.gateway.specs.Gateway.{foundAt, choose}
 use Rattle.selection.specs.Selection.{registered, byNode, atHome, direct, abroad, startAt, start, askOr, ifListed, noneListed, oneOrMore, country}
 use Rattle.selection.specs.Stops.{homeStep, startStep, lastStep, countryStep, addresses, networks, Ends, stopFound, stopOf, Exactly, StopsExactly}
-use Rattle.selection.specs.declared.Choice.{Choice}
 use Rattle.selection.specs.declared.Choice.the-variants.{Stop, Country, Network}
 use Rattle.place.specs.declared.Facts.{Facts}
 
@@ -89,14 +89,14 @@ module _ (version : ℕ) (held : List Address) where
   fails xs = (a : Address) → stands a xs ≡ true → p a ≡ false
 
   nothing-left : (k : ℕ) (xs : List Address) → fails xs → left k xs ≡ some 4
-  unfolding place foundAt stopFound stands
+  unfolding place foundAt stopFound stands anyOf
   nothing-left k [] h = refl
   nothing-left k (x ∷ xs) h =
       let barred-one : p x ≡ false = h x (ap (λ (t : Bool). t || stands x xs) (same-self x)) in
       rw barred-one (nothing-left k xs (λ a e. h a (or-later (sameAddress a x) (stands a xs) e)))
 
   none-permitted : (k n : ℕ) (xs : List Address) → left k xs ≡ some n → (n ≡ 4) × fails xs
-  unfolding place foundAt stopFound stands
+  unfolding place foundAt stopFound stands anyOf
   none-permitted k n [] e = (same-number e, λ a q. absurd (false≢true q))
   none-permitted k n (x ∷ xs) e = go (p x) refl (none-permitted k n xs)
     where
@@ -169,7 +169,7 @@ module _ (s : Settings) where
   barredAll ps = (p : Plmn) → among p ps ≡ true → unbarred s p ≡ false
 
   none-free : (ps : List Plmn) → first (unbarred s) ps ≡ none → barredAll ps
-  unfolding first among
+  unfolding first among anyOf
   none-free [] e = λ p h. absurd (false≢true h)
   none-free (q ∷ qs) e = go (unbarred s q) refl (none-free qs)
     where
@@ -183,7 +183,7 @@ module _ (s : Settings) where
 
   module _ (ps : List Plmn) (all : barredAll ps) where
     free-none : (qs : List Plmn) → ((p : Plmn) → among p qs ≡ true → among p ps ≡ true) → first (unbarred s) qs ≡ none
-    unfolding first among
+    unfolding first among anyOf
     free-none [] within = refl
     free-none (q ∷ qs) within =
         let barred-one : unbarred s q ≡ false = all q (within q (ap (λ (t : Bool). t || among q qs) (self-plmn q))) in

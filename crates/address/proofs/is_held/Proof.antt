@@ -5,6 +5,7 @@ use mathlib.Core.List.{List}
 use mathlib.Core.Path.{_≡_, refl, sym, _∙_}
 use lib.ListN.{length, getD, drop}
 use borrow.Author.Needs.{needs}
+use Rattle.octets.specs.Search.{anyOf}
 use Rattle.address.specs.declared.Address.{Address}
 use Rattle.address.specs.declared.Hold.{Hold}
 use Rattle.address.specs.Address.{heldIn, sameAddress, stands}
@@ -21,12 +22,12 @@ abbrev μ-loop : tie.MeasureT-loop
 module _ (l : List Hold) (n i : ℕ) (a : Address) (long : n ≤ length l) where
   -- the next hold decides first
   next : i < n → (t : Bool) → sameAddress a (getD l i none .address) ≡ t → stands a (drop i (heldIn l n)) ≡ t || stands a (drop (i + 1) (heldIn l n))
-  unfolding stands
+  unfolding stands anyOf
   next h t e = rw (held-more l n i long h, e)
 
   -- none is left
   done : n ≤ i → stands a (drop i (heldIn l n)) ≡ false
-  unfolding stands
+  unfolding stands anyOf
   done h = rw (held-done l n i long h)
 
 loop-holds : tie.Need-loop-holds Inv-loop μ-loop

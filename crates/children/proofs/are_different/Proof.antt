@@ -5,9 +5,9 @@ use mathlib.Core.Bool.{Bool, true, false, not, _&&_}
 use mathlib.Core.Path.{_≡_, refl, sym, _∙_}
 use lib.ListN.{length, getD, take, drop}
 use borrow.Author.Needs.{needs}
-use Rattle.octets.proofs.Rows.{left-more, left-none}
+use Rattle.octets.proofs.Rows.{distinct-more, distinct-none}
 use Rattle.children.specs.declared.Child.{Child}
-use Rattle.children.specs.Children.{hasSpi, spisDiffer}
+use Rattle.children.specs.Children.{hasSpi, sameSpi, spisDiffer}
 use Rattle.children.proofs.Widths.{nothing}
 use Rattle.children.proofs.are_different.Statement.{statement}
 use Rattle.children.proofs.are_different.Tie as tie
@@ -21,13 +21,13 @@ abbrev μ-loop : tie.MeasureT-loop
 module _ (l : List Child) (n i : ℕ) (long : n ≤ length l) where
   -- the next SPI against those behind it decides first
   next : i < n → (t : Bool) → hasSpi (getD l i nothing .spi) (drop (i + 1) (take n l)) ≡ t → spisDiffer (drop i (take n l)) ≡ not t && spisDiffer (drop (i + 1) (take n l))
-  unfolding spisDiffer
-  next h t e = rw (left-more l n i long nothing h, e)
+  unfolding spisDiffer sameSpi hasSpi
+  next = distinct-more l n i long sameSpi nothing
 
   -- none is left
   done : n ≤ i → spisDiffer (drop i (take n l)) ≡ true
   unfolding spisDiffer
-  done h = rw (left-none l n i long h)
+  done = distinct-none l n i long sameSpi
 
 loop-holds : tie.Need-loop-holds Inv-loop μ-loop
 loop-holds c = (search needs, refl)

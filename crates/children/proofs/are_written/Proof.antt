@@ -1,5 +1,5 @@
 -- `children::are_written` meets its contract: the count decides where the zeros begin.
-use mathlib.Core.Path.{refl, _∙_, sym}
+use mathlib.Core.Path.{refl}
 use borrow.Author.Tests.{le-leb, lt-leb}
 use borrow.Author.Needs.{needs}
 use Rattle.children.specs.Children.{childrenWritten}

@@ -7,9 +7,9 @@ use lib.Dec.{eqb}
 use lib.ListN.{length, getD, take, drop}
 use borrow.Author.Tests.{eq-eqb, ne-eqb}
 use borrow.Author.Needs.{needs}
-use Rattle.octets.proofs.Rows.{left-more, left-none}
+use Rattle.octets.proofs.Rows.{anyOf-more, anyOf-none}
 use Rattle.children.specs.declared.Child.{Child}
-use Rattle.children.specs.Children.{hasSpi}
+use Rattle.children.specs.Children.{hasSpi, isSpi}
 use Rattle.children.proofs.Widths.{nothing}
 use Rattle.children.proofs.has_spi.Statement.{statement}
 use Rattle.children.proofs.has_spi.Tie as tie
@@ -23,13 +23,13 @@ abbrev μ-loop : tie.MeasureT-loop
 module _ (l : List Child) (n i spi : ℕ) (long : n ≤ length l) where
   -- the next child decides first
   next : i < n → (t : Bool) → eqb spi (getD l i nothing .spi) ≡ t → hasSpi spi (drop i (take n l)) ≡ t || hasSpi spi (drop (i + 1) (take n l))
-  unfolding hasSpi
-  next h t e = rw (left-more l n i long nothing h, e)
+  unfolding hasSpi isSpi
+  next = anyOf-more l n i long (isSpi spi) nothing
 
   -- none is left
   done : n ≤ i → hasSpi spi (drop i (take n l)) ≡ false
   unfolding hasSpi
-  done h = rw (left-none l n i long h)
+  done = anyOf-none l n i long (isSpi spi)
 
 loop-holds : tie.Need-loop-holds Inv-loop μ-loop
 loop-holds c = (search needs, refl)

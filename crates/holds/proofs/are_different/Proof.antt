@@ -5,6 +5,7 @@ use mathlib.Core.Bool.{Bool, true, false, not, _&&_}
 use mathlib.Core.Path.{_≡_, refl, sym, _∙_}
 use lib.ListN.{length, getD, drop}
 use borrow.Author.Needs.{needs}
+use Rattle.octets.specs.Search.{distinct}
 use Rattle.address.specs.Address.{heldIn, stands}
 use Rattle.address.specs.declared.Hold.{Hold}
 use Rattle.address.proofs.Holds.{none, held-more, held-done}
@@ -22,12 +23,12 @@ module _ (l : List Hold) (n i : ℕ) (long : n ≤ length l) where
   -- the next address against those behind it decides first
   next : i < n → (t : Bool) → stands (getD l i none .address) (drop (i + 1) (heldIn l n)) ≡ t
       → different (drop i (heldIn l n)) ≡ not t && different (drop (i + 1) (heldIn l n))
-  unfolding different
+  unfolding different distinct stands
   next h t e = rw (held-more l n i long h, e)
 
   -- none is left
   done : n ≤ i → different (drop i (heldIn l n)) ≡ true
-  unfolding different
+  unfolding different distinct
   done h = rw (held-done l n i long h)
 
 loop-holds : tie.Need-loop-holds Inv-loop μ-loop

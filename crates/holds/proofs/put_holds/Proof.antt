@@ -1,11 +1,9 @@
 -- `holds::put_holds` meets its contract. The loop's invariant: the holds passed are stored.
 use Prim.Native.Nat.{_-_, _≤_}
-use Prim.Native.Nat.{ℕ}
-use mathlib.Core.Path.{_≡_, refl, _∙_, subst}
+use mathlib.Core.Path.{_≡_, refl, _∙_}
 use native.Mathlib.Omega.{arith}
 use lib.ListN.{length, take}
 use lib.Seq.{length-take-le}
-use denote.Ref.{now}
 use borrow.Author.Needs.{needs}
 use Rattle.octets.specs.Part.{Wrote}
 use Rattle.octets.specs.Row.{joined}

@@ -1,5 +1,4 @@
 -- `holds::read_hold` meets its contract: the end stands behind the address.
-use Prim.Native.Nat.{ℕ}
 use mathlib.Core.Path.{ap, ap₂, _∙_}
 use borrow.Author.Needs.{needs}
 use Rattle.address.specs.declared.Address.{Address}

@@ -8,7 +8,6 @@ use denote.Ref.{now}
 use borrow.Author.Needs.{needs}
 use Rattle.octets.specs.Row.{row}
 use Rattle.octets.proofs.Rows.{row-stored}
-use Rattle.address.specs.declared.Hold.{Hold}
 use Rattle.holds.specs.Holds.{holdIn, holdsFrom}
 use Rattle.holds.proofs.read_holds.Statement.{statement}
 use Rattle.holds.proofs.read_holds.Tie as tie

@@ -1,6 +1,6 @@
 -- `preference::better_of` meets its contract: the earlier record stays unless the later one is better.
 use mathlib.Core.Bool.{true, false}
-use mathlib.Core.Path.{_≡_, sym, ap, _∙_}
+use mathlib.Core.Path.{_≡_, sym}
 use native.Mathlib.Omega.{arith}
 use borrow.Author.Tests.{not-true, not-false}
 use Rattle.preference.specs.Preference.{better}

@@ -2,7 +2,7 @@
 use Prim.Native.Nat.{ℕ, _-_, _/_, _≤_}
 use mathlib.Core.Bool.{true, false, not}
 use mathlib.Core.Option.{some}
-use mathlib.Core.Path.{_≡_, refl, sym, ap, _∙_}
+use mathlib.Core.Path.{_≡_, sym, ap, _∙_}
 use native.Mathlib.Nat.{sub-zero}
 use native.Mathlib.Omega.{arith}
 use lib.ListN.{length}
@@ -12,7 +12,7 @@ use Rattle.network.specs.Plmn.{plmnOption}
 use Rattle.octets.specs.Row.{row, first}
 use Rattle.octets.proofs.Rows.{first-more, first-here, first-none}
 use Rattle.lists.specs.Lists.{networkAt, networksIn}
-use Rattle.preference.specs.Preference.{barred, unbarred, unranked}
+use Rattle.preference.specs.Preference.{unbarred, unranked}
 use Rattle.config.specs.Settings.{settingsIn}
 use Rattle.preference.proofs.unranked.Statement.{statement}
 use Rattle.preference.proofs.unranked.Tie as tie

@@ -1,6 +1,4 @@
 -- `record::put_parts` meets its contract: each part is written behind the one before it, and what is between them stays zero.
-use Prim.Native.Nat.{ℕ, _≤_}
-use mathlib.Core.List.{List}
 use mathlib.Core.Path.{_≡_, sym, ap, _∙_}
 use native.Mathlib.Omega.{arith}
 use lib.ListN.{length, take}

@@ -1,7 +1,6 @@
 -- `selection::if_listed` meets its contract: the registered PLMN must be listed, and then not be barred.
-use mathlib.Core.List.{List}
-use mathlib.Core.Option.{Option, some}
-use mathlib.Core.Path.{_≡_, sym, ap, _∙_}
+use mathlib.Core.Option.{Option}
+use mathlib.Core.Path.{sym, ap, _∙_}
 use denote.Ref.{now}
 use borrow.Author.Tests.{not-true, not-false}
 use borrow.Author.Needs.{needs}

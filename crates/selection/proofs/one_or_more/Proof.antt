@@ -1,5 +1,4 @@
 -- `selection::one_or_more` meets its contract: each network comes before the next.
-use mathlib.Core.List.{List}
 use mathlib.Core.Option.{Option}
 use mathlib.Core.Path.{ap, ap₂, _∙_}
 use denote.Ref.{now}
@@ -7,7 +6,6 @@ use borrow.Author.Needs.{needs}
 use Rattle.config.specs.Settings.{settingsIn}
 use Rattle.lists.specs.Lists.{networksIn}
 use Rattle.network.specs.declared.Plmn.{Plmn}
-use Rattle.selection.specs.declared.Choice.{Choice}
 use Rattle.selection.specs.declared.Choice.the-variants.{Stop}
 use Rattle.selection.specs.Selection.{askOr, ifListed, oneOrMore, registered}
 use Rattle.selection.proofs.one_or_more.Statement.{statement}

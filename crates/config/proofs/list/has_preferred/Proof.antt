@@ -5,6 +5,7 @@ use mathlib.Core.List.{List, map}
 use mathlib.Core.Path.{_≡_, refl, sym, _∙_}
 use lib.ListN.{length, getD, take, drop}
 use borrow.Author.Needs.{needs}
+use Rattle.octets.specs.Search.{anyOf}
 use Rattle.network.specs.declared.Plmn.{Plmn}
 use Rattle.entry.specs.declared.field.Preferred.{Preferred}
 use Rattle.octets.proofs.Rows.{left-more, left-none}
@@ -27,12 +28,12 @@ module _ (l : List Preferred) (n i : ℕ) (p : Plmn) (long : n ≤ length l) whe
   -- the next PLMN decides first
   next : i < n → (t : Bool) → samePlmn p (getD l i none .plmn) ≡ t
       → among p (map plmnIn (drop i (take n l))) ≡ t || among p (map plmnIn (drop (i + 1) (take n l)))
-  unfolding among plmnIn
+  unfolding among anyOf plmnIn
   next h t e = rw (left-more l n i long none h, e)
 
   -- none is left
   done : n ≤ i → among p (map plmnIn (drop i (take n l))) ≡ false
-  unfolding among
+  unfolding among anyOf
   done h = rw (left-none l n i long h)
 
 loop-holds : tie.Need-loop-holds Inv-loop μ-loop

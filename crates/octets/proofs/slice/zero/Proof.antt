@@ -1,5 +1,5 @@
 -- `octets::slice::zero` meets its contract. The loop's invariant: the octets passed are zero, and the others are as they were.
-use Prim.Native.Nat.{ℕ, zero, _-_, _≤_}
+use Prim.Native.Nat.{ℕ, _-_, _≤_}
 use mathlib.Core.List.{List, _++_, append-nil}
 use mathlib.Core.Path.{_≡_, refl, ap, _∙_}
 use native.Mathlib.Omega.{arith}

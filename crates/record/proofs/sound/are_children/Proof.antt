@@ -1,5 +1,4 @@
 -- `record::sound::are_children` meets its contract: only a live line has children.
-use Prim.Native.Nat.{_≤_}
 use mathlib.Core.Path.{_≡_, sym, _∙_}
 use native.Mathlib.Omega.{arith}
 use lib.ListN.{length, take}

@@ -1,5 +1,4 @@
 -- `record::sound::are_holds` meets its contract: one test after another.
-use Prim.Native.Nat.{_≤_}
 use mathlib.Core.Path.{_≡_, sym, _∙_}
 use native.Mathlib.Omega.{arith}
 use lib.ListN.{length, take}

@@ -1,5 +1,4 @@
 -- `record::sound::is_written` meets its contract: the holds first, and then the children.
-use Prim.Native.Nat.{ℕ}
 use mathlib.Core.Path.{sym, ap, _∙_}
 use denote.Ref.{now}
 use borrow.Author.Tests.{not-true, not-false}

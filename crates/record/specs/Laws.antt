@@ -1,0 +1,36 @@
+-- Writing and reading records undo each other; the function `laws` promises it.
+use Prim.Native.Nat.{ℕ, _^_, _≤_, _<_}
+use mathlib.Core.Bool.{Bool, true, _&&_}
+use mathlib.Core.List.{List}
+use mathlib.Core.Path.{_≡_}
+use lib.Dec.{ltb}
+use lib.ListN.{length}
+use Rattle.octets.specs.Digits.{field}
+use Rattle.octets.specs.Laws.{below}
+use Rattle.octets.specs.Search.{allOf}
+use Rattle.children.specs.Laws.{childHeld}
+use Rattle.holds.specs.Laws.{holdHeld}
+use Rattle.phase.specs.Laws.{phaseHeld}
+use Rattle.record.specs.Line.{Line}
+use Rattle.record.specs.Octets.{lineFrom, recordOctets}
+use Rattle.record.specs.Sound.{isRecord, lineSound}
+
+-- a line whose parts fit their octets
+unfoldable pub lineHeld : Line → Bool
+lineHeld x = ltb (x .time) (256 ^ 4) && phaseHeld (x .phase) && allOf holdHeld (x .holds) && allOf childHeld (x .children)
+
+pub record Laws : Type 0 where
+  -- a record has 243 octets
+  pub octet-count : (pair : ℕ) (x : Line) → length (x .holds) ≤ 8 → length (x .children) ≤ 8 → length (recordOctets pair x) ≡ 243
+  -- the number of the pair is read back from a record's octets
+  pub pair-back : (pair : ℕ) (x : Line) → pair < 256 → field (recordOctets pair x) 0 1 ≡ pair
+  -- a sound line whose parts fit their octets is read back from a record's octets
+  pub read-back : (pair : ℕ) (x : Line) → lineSound x ≡ true → lineHeld x ≡ true → lineFrom (recordOctets pair x) ≡ x
+  -- a sound line of one of the 64 pairs is written as a sound record
+  pub sound-back : (pair : ℕ) (x : Line) → 1 ≤ pair → pair ≤ 64 → lineSound x ≡ true → lineHeld x ≡ true → isRecord (recordOctets pair x) ≡ true
+  -- a sound record is written back as the octets that it was read from
+  pub write-back : (l : List ℕ) → allOf (below 256) l ≡ true → length l ≡ 243 → isRecord l ≡ true → recordOctets (field l 0 1) (lineFrom l) ≡ l
+  -- the parts of a line that is read from a sound record fit their octets
+  pub held : (l : List ℕ) → allOf (below 256) l ≡ true → length l ≡ 243 → isRecord l ≡ true → lineHeld (lineFrom l) ≡ true
+  -- a record is written in octets
+  pub octets : (pair : ℕ) (x : Line) → allOf (below 256) (recordOctets pair x) ≡ true
