@@ -1,3 +1,10 @@
 -- The laws that the proofs of this crate share.
+pub mod Empty
+pub mod Found
+pub mod Lookups
+pub mod Puts
+pub mod Room
 pub mod Slots
 pub mod Splices
+pub mod Stored
+pub mod Views

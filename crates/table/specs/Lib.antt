@@ -1,2 +1,4 @@
 -- The table of records.
 pub mod Table
+pub mod Slots
+pub mod Laws

@@ -16,6 +16,7 @@ ghost use Rattle.octets.specs.Search.{least};
 ghost use Rattle.record.specs.Line.{lineOf};
 ghost use Rattle.record.specs.Sound.{isRecord};
 ghost use Rattle.record.specs.Octets.{lineFrom, recordOctets};
+ghost use Rattle.table.specs.Laws.{Laws};
 ghost use Rattle.table.specs.Table.{hasPair, isTable, pairAt, pairOnce, recordOf, slot, slotSound};
 
 // The number of the pair of a record.
@@ -118,3 +119,8 @@ pub fn erase(table: &mut [u8], i: usize)
     let at = 243 * i;
     zero(&mut table[at..at + 243]);
 }
+
+// Does nothing; its promise is what holds of tables and their slots.
+pub fn laws()
+    ensures { λ _. ⌜ Laws ⌝ }
+{}

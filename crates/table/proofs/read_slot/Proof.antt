@@ -1,9 +1,5 @@
 -- `table::read_slot` meets its contract: a sound record has counts within its room.
-use Prim.Native.Nat.{ℕ, _≤_}
-use mathlib.Core.List.{List}
-use mathlib.Core.Path.{_≡_, sym, ap, _∙_, subst}
-use native.Mathlib.Nat.{le-refl}
-use lib.ListN.{length}
+use mathlib.Core.Path.{ap, _∙_}
 use borrow.Author.Needs.{needs}
 use Rattle.record.specs.Octets.{lineFrom}
 use Rattle.table.specs.Table.{slot}
