@@ -30,7 +30,7 @@ ghost use Rattle.preference.specs.Branch.{Counted};
 ghost use Rattle.query.specs.Query.{TextWithin};
 
 // Writes the numbers of a PLMN.
-fn put_plmn(p: Plmn) {
+pub fn put_plmn(p: Plmn) {
     put_number(p.mcc);
     put_number(p.mnc);
 }
@@ -51,7 +51,7 @@ fn put_list(list: [Preferred; 16], n: usize, ranked: bool)
 }
 
 // Writes an address in hexadecimal digits.
-fn put_address(a: Address) {
+pub fn put_address(a: Address) {
     match a {
         Address::V4(x) => {
             put_text(b" v4 ");

@@ -78,15 +78,15 @@ module _ (pair : ℕ) (low : 1 ≤ pair) (t : Slot) (own : pairIn t ≡ pair) wh
   alike-open [] = refl
   alike-open (u ∷ ss) = rw (same-is u, alike-open ss)
 
--- where no pair stands twice, a pair whose slot becomes free is not found
-pub line-dropped : (pair : ℕ) → 1 ≤ pair → (ss : List Slot) → pairsOnce ss ≡ true → lineAt pair (replaced pair Free ss) ≡ none
-unfolding pairsOnce distinct lineAt replaced isOf pairIn
-line-dropped pair low [] once = refl
-line-dropped pair low (t ∷ ts) once = go (isOf pair t) refl (line-dropped pair low ts (and-right (not (anyOf (samePair t) ts)) (pairsOnce ts) once))
+-- where no pair stands twice, a pair whose slot is replaced by a free one, or one of another pair, is not found
+pub line-dropped : (pair : ℕ) (s : Slot) → 1 ≤ pair → (pairIn s ≡ pair → ⊥) → (ss : List Slot) → pairsOnce ss ≡ true → lineAt pair (replaced pair s ss) ≡ none
+unfolding pairsOnce distinct lineAt replaced isOf
+line-dropped pair s low apart [] once = refl
+line-dropped pair s low apart (t ∷ ts) once = go (isOf pair t) refl (line-dropped pair s low apart ts (and-right (not (anyOf (samePair t) ts)) (pairsOnce ts) once))
   where
-    go : (b : Bool) → isOf pair t ≡ b → lineAt pair (replaced pair Free ts) ≡ none → lineAt pair (cond b (Free ∷ ts) (t ∷ replaced pair Free ts)) ≡ none
+    go : (b : Bool) → isOf pair t ≡ b → lineAt pair (replaced pair s ts) ≡ none → lineAt pair (cond b (s ∷ ts) (t ∷ replaced pair s ts)) ≡ none
     go true q rest =
         let own : pairIn t ≡ pair = eqb-true (pairIn t) pair q in
         let away : isOpen pair ts ≡ false = sym (alike-open pair low t own ts) ∙ not-true (anyOf (samePair t) ts) (and-left (not (anyOf (samePair t) ts)) (pairsOnce ts) once) in
-        rw (ne-eqb 0 pair (λ h. omega arith)) (closed-line pair ts away)
+        rw (ne-eqb (pairIn s) pair apart) (closed-line pair ts away)
     go false q rest = rw q rest

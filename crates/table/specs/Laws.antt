@@ -53,7 +53,8 @@ pub record Laws : Type 0 where
   pub line-changed : (pair : ℕ) (s : Slot) → pairIn s ≡ pair → (ss : List Slot) → isOpen pair ss ≡ true → lineAt pair (replaced pair s ss) ≡ slotLine s
   pub line-added : (pair : ℕ) (s : Slot) (ss : List Slot) → isOpen pair ss ≡ true → isOpen (pairIn s) ss ≡ false
       → lineAt (pairIn s) (replaced pair s ss) ≡ slotLine s
-  pub line-dropped : (pair : ℕ) → 1 ≤ pair → (ss : List Slot) → pairsOnce ss ≡ true → lineAt pair (replaced pair Free ss) ≡ none
+  pub line-dropped : (pair : ℕ) (s : Slot) → 1 ≤ pair → (pairIn s ≡ pair → ⊥) → (ss : List Slot) → pairsOnce ss ≡ true
+      → lineAt pair (replaced pair s ss) ≡ none
   pub line-other : (pair : ℕ) (s : Slot) (q : ℕ) → (pair ≡ q → ⊥) → (pairIn s ≡ q → ⊥) → (ss : List Slot)
       → lineAt q (replaced pair s ss) ≡ lineAt q ss
   -- a pair is open exactly where it has a line
