@@ -26,7 +26,7 @@ use selection::country;
 use selection::is_home_abroad;
 use selection::start;
 ghost use Prim.Native.Nat.{_≤_};
-ghost use Rattle.preference.specs.Branch.{Counted};
+ghost use Rattle.config.specs.Settings.{Counted};
 ghost use Rattle.query.specs.Query.{TextWithin};
 
 // Writes the numbers of a PLMN.

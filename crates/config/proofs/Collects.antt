@@ -1,18 +1,21 @@
 -- Entries collected one after another: how many there are and whether one stands twice.
 use Prim.Native.Nat.{ℕ, suc, _+_, _≤_, _<_}
-use mathlib.Core.Bool.{Bool, true, false, false≢true}
+use mathlib.Core.Bool.{Bool, true, false, _&&_, false≢true}
 use mathlib.Core.List.{List, [], _∷_, _++_, map, map-append, append-assoc, append-nil}
-use mathlib.Core.Path.{_≡_, sym, ap, _∙_}
+use mathlib.Core.Path.{_≡_, sym, ap, ap₂, _∙_}
 use native.Mathlib.Omega.{arith}
 use lib.Dec.{leb}
 use lib.ListN.{length, length-append, length-map}
 use borrow.Author.Tests.{le-leb, lt-leb}
-use Rattle.octets.proofs.Search.{and-false}
+use Rattle.octets.specs.Search.{distinct}
+use Rattle.octets.proofs.Search.{and-false, and-true, eqb-turned}
+use Rattle.octets.proofs.Sublists.{distinct-last, distinct-repeats}
 use Rattle.entry.specs.declared.field.Preferred.{Preferred}
-use Rattle.network.specs.Plmn.{among}
+use Rattle.network.specs.Plmn.{among, samePlmn}
+use Rattle.network.specs.declared.Plmn.{Plmn}
 use Rattle.config.specs.Branch.{RunIs}
 use Rattle.config.specs.Lines.{entriesFrom}
-use Rattle.config.specs.Settings.{plmnIn, newAfter, accepted, asListed, run}
+use Rattle.config.specs.Settings.{plmnIn, accepted, asListed, run}
 use Rattle.config.specs.declared.list.Run.{Run}
 
 -- entries that are not accepted
@@ -29,8 +32,13 @@ not-accepted bars l at r h e₀ =
       next-within = omega arith;
     }
 
+-- the test of PLMNs goes both ways
+same-turned : (p q : Plmn) → samePlmn p q ≡ samePlmn q p
+unfolding samePlmn
+same-turned p q = ap₂ (λ (s t : Bool). s && t) (eqb-turned (p .mcc) (q .mcc)) (eqb-turned (p .mnc) (q .mnc))
+
 -- S is what is collected, d, and what is left, X
-module _ (S d X : List Preferred) (split : S ≡ d ++ X) (new : newAfter [] (map plmnIn S) ≡ newAfter (map plmnIn d) (map plmnIn X)) where
+module _ (S d X : List Preferred) (split : S ≡ d ++ X) (new : distinct samePlmn (map plmnIn d) ≡ true) where
   size : length (map plmnIn S) ≡ length d + length X
   size = length-map S plmnIn ∙ ap length split ∙ length-append d X
 
@@ -39,11 +47,11 @@ module _ (S d X : List Preferred) (split : S ≡ d ++ X) (new : newAfter [] (map
   all-collected e = split ∙ ap (λ (x : List Preferred). d ++ x) e ∙ append-nil d
 
   pub all-accepted : X ≡ [] → length d ≤ 16 → true ≡ accepted (map plmnIn S)
-  unfolding accepted newAfter
+  unfolding accepted
   all-accepted e h =
       let none : length X ≡ 0 = ap length e in
       let few : length (map plmnIn S) ≤ 16 = omega (arith, size) in
-      sym (rw (le-leb (length (map plmnIn S)) 16 few, new, e))
+      sym (and-true (leb (length (map plmnIn S)) 16) (distinct samePlmn (map plmnIn S)) (le-leb (length (map plmnIn S)) 16 few) (ap (λ (x : List Preferred). distinct samePlmn (map plmnIn x)) (all-collected e) ∙ new))
 
   module _ (p : Preferred) (Y : List Preferred) (more : X ≡ p ∷ Y) where
     -- a seventeenth is left
@@ -56,15 +64,17 @@ module _ (S d X : List Preferred) (split : S ≡ d ++ X) (new : newAfter [] (map
 
     -- the next one stands among those collected
     pub repeated : among (plmnIn p) (map plmnIn d) ≡ true → false ≡ accepted (map plmnIn S)
-    unfolding accepted newAfter
+    unfolding accepted among
     repeated h =
-        let twice : newAfter [] (map plmnIn S) ≡ false = new ∙ rw (more, h) in
-        sym (and-false (leb (length (map plmnIn S)) 16) (newAfter [] (map plmnIn S)) twice)
+        let twice : distinct samePlmn (map plmnIn S) ≡ false =
+        ap (λ (x : List Preferred). distinct samePlmn (map plmnIn x)) (split ∙ ap (λ (x : List Preferred). d ++ x) more)
+        ∙ ap (distinct samePlmn) (map-append plmnIn d (p ∷ Y)) ∙ distinct-repeats samePlmn same-turned (map plmnIn d) (plmnIn p) (map plmnIn Y) h in
+        sym (and-false (leb (length (map plmnIn S)) 16) (distinct samePlmn (map plmnIn S)) twice)
 
     -- the next one is collected too
     pub one-more : S ≡ (d ++ p ∷ []) ++ Y
     one-more = split ∙ ap (λ (x : List Preferred). d ++ x) more ∙ sym (append-assoc d (p ∷ []) Y)
 
-    pub still-new : among (plmnIn p) (map plmnIn d) ≡ false → newAfter [] (map plmnIn S) ≡ newAfter (map plmnIn (d ++ p ∷ [])) (map plmnIn Y)
-    unfolding newAfter
-    still-new h = new ∙ rw (more, h, map-append plmnIn d (p ∷ []))
+    pub still-new : among (plmnIn p) (map plmnIn d) ≡ false → distinct samePlmn (map plmnIn (d ++ p ∷ [])) ≡ true
+    unfolding among
+    still-new h = ap (distinct samePlmn) (map-append plmnIn d (p ∷ [])) ∙ distinct-last samePlmn same-turned (map plmnIn d) (plmnIn p) h new

@@ -1,11 +1,12 @@
 -- The configuration text as a whole: `home` once, `node` at most once, `plmn` and `bar` at most 16 times each, in this order.
 use Prim.Native.Nat.{ℕ, _+_, _≤_}
-use mathlib.Core.Bool.{Bool, true, false, cond, not, _&&_}
-use mathlib.Core.List.{List, [], _∷_, _++_, map}
+use mathlib.Core.Bool.{Bool, true, false, cond, _&&_}
+use mathlib.Core.List.{List, [], _∷_, map}
 use mathlib.Core.Option.{Option, none, some}
 use lib.Dec.{leb}
 use lib.ListN.{length, take}
-use Rattle.network.specs.Plmn.{among}
+use Rattle.octets.specs.Search.{distinct}
+use Rattle.network.specs.Plmn.{samePlmn}
 use Rattle.network.specs.declared.Plmn.{Plmn}
 use Rattle.entry.specs.declared.Entry.{Entry}
 use Rattle.entry.specs.declared.Entry.the-variants.{Home, Name, Preference, Bar, End, Bad}
@@ -37,14 +38,9 @@ settingsIn c = record {
   bars = map plmnIn (take (c .«bar_count») (c .bars));
 }
 
--- no PLMN of a list stands before it, in the list or among those seen
-unfoldable pub newAfter : List Plmn → List Plmn → Bool
-newAfter seen [] = true
-newAfter seen (p ∷ ps) = not (among p seen) && newAfter (seen ++ p ∷ []) ps
-
 -- at most 16, and no PLMN twice
 unfoldable pub accepted : List Plmn → Bool
-accepted ps = leb (length ps) 16 && newAfter [] ps
+accepted ps = leb (length ps) 16 && distinct samePlmn ps
 
 -- the kinds of entry that follow one another
 unfoldable pub asHome : Entry → Option Plmn
@@ -159,8 +155,12 @@ NodeWithin text Node.None = Unit {0}
 NodeWithin text (Node.Name at n) = at + n ≤ length text
 NodeWithin text (Node.Address a) = Unit {0}
 
--- what is kept of a text lies in the arrays and in the text
-pub record Within (text : List ℕ) (c : Config) : Type 0 where
+-- a configuration whose entries lie in its arrays
+pub record Counted (c : Config) : Type 0 where
   pub plmns-within : c .«plmn_count» ≤ 16
   pub bars-within : c .«bar_count» ≤ 16
+
+-- what is kept of a text lies in the arrays and in the text
+pub record Within (text : List ℕ) (c : Config) : Type 0 where
+  pub counted : Counted c
   pub name-within : NodeWithin text (c .node)

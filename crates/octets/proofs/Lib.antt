@@ -10,3 +10,4 @@ pub mod Rows
 pub mod Search
 pub mod Splices
 pub mod Stands
+pub mod Sublists

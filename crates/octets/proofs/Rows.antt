@@ -41,11 +41,34 @@ module _ {A : Type 0} (f : ℕ → A) where
   row-of x k zero e = refl
   row-of x k (suc n) e = ap₂ (λ (y : A) (ys : List A). y ∷ ys) (e k (omega arith)) (row-of x (suc k) n (λ i h. e i (omega arith)))
 
-  -- two rows with the same values from a number on
-  pub row-same : (g : ℕ → A) (k n : ℕ) → ((i : ℕ) → k ≤ i → g i ≡ f i) → row g k n ≡ row f k n
+  -- two rows with the same values
+  pub row-same : (g : ℕ → A) (k n : ℕ) → ((i : ℕ) → k ≤ i → i < k + n → g i ≡ f i) → row g k n ≡ row f k n
   unfolding row
   row-same g k zero e = refl
-  row-same g k (suc n) e = ap₂ (λ (y : A) (ys : List A). y ∷ ys) (e k (omega arith)) (row-same g (suc k) n (λ i h. e i (omega arith)))
+  row-same g k (suc n) e = ap₂ (λ (y : A) (ys : List A). y ∷ ys) (e k (omega arith) (omega arith)) (row-same g (suc k) n (λ i h m. e i (omega arith) (omega arith)))
+
+  -- a row with another value at one number
+  pub row-set : (g : ℕ → A) (i : ℕ) (v : A) → ((j : ℕ) → (j ≡ i → ⊥) → g j ≡ f j) → g i ≡ v → (k n m : ℕ) → k + m ≡ i → row g k n ≡ set (row f k n) m v
+  unfolding row
+  row-set g i v others own k zero m e = refl
+  row-set g i v others own k (suc n) zero e =
+      let here : k ≡ i = omega (arith, e) in
+      ap₂ (λ (y : A) (ys : List A). y ∷ ys) (ap g here ∙ own) (row-same g (suc k) n (λ j h less. others j (λ q. omega arith)))
+  row-set g i v others own k (suc n) (suc m) e =
+      ap₂ (λ (y : A) (ys : List A). y ∷ ys) (others k (λ q. omega arith)) (row-set g i v others own (suc k) n m (omega arith))
+
+  -- a value by its number in a row, and past its end
+  pub getD-row : (d : A) (k n i : ℕ) → i < n → getD (row f k n) i d ≡ f (k + i)
+  unfolding row
+  getD-row d k zero i h = absurd (omega arith)
+  getD-row d k (suc n) zero h = ap f (sym (add-zero k))
+  getD-row d k (suc n) (suc i) h = getD-row d (suc k) n i (omega arith) ∙ ap f (suc-add k i ∙ sym (add-suc k i))
+
+  pub getD-past : (d : A) (k n i : ℕ) → n ≤ i → getD (row f k n) i d ≡ d
+  unfolding row
+  getD-past d k zero i h = refl
+  getD-past d k (suc n) zero h = absurd (omega arith)
+  getD-past d k (suc n) (suc i) h = getD-past d (suc k) n i (omega arith)
 
   -- no value of a row passes
   pub row-fails : (p : A → Bool) (k n : ℕ) → ((i : ℕ) → k ≤ i → i < k + n → p (f i) ≡ false) → anyOf p (row f k n) ≡ false

@@ -6,8 +6,8 @@ use mathlib.Core.Path.{_≡_, refl, sym, ap, _∙_, subst}
 use native.Mathlib.Nat.{not-suc-le-zero, le-of-suc-le-suc, eq-or-lt-of-le, le-refl, le-step, le-suc, lt-of-lt-of-le, not-le-of-lt}
 use native.Mathlib.Numerals.{add-one}
 use native.Mathlib.Omega.{arith}
-use lib.Dec.{ltb, eqb}
-use borrow.Author.Tests.{lt-ltb, le-ltb, ltb-true, ltb-false, eqb-true, eqb-false}
+use lib.Dec.{leb, ltb, eqb}
+use borrow.Author.Tests.{lt-ltb, le-ltb, le-leb, ltb-true, ltb-false, leb-true, eqb-true, eqb-false, eq-eqb, ne-eqb}
 use Rattle.octets.specs.Search.{all, least}
 
 pub and-left : (a b : Bool) → a && b ≡ true → a ≡ true
@@ -33,6 +33,20 @@ pub or-right : (a b : Bool) → a || b ≡ false → b ≡ false
 or-right true b e = absurd (true≢false e)
 or-right false b e = e
 
+-- where neither of two tests passes
+pub or-both : (a b : Bool) → a ≡ false → b ≡ false → a || b ≡ false
+or-both a b e f = ap (λ (t : Bool). t || b) e ∙ f
+
+-- where one of two tests passes and it isn't the first
+pub or-other : (a b : Bool) → a || b ≡ true → a ≡ false → b ≡ true
+or-other true b e f = absurd (true≢false f)
+or-other false b e f = e
+
+-- where the second test passes, so does another in its place
+pub or-second : (a b c : Bool) → (b ≡ true → c ≡ true) → a || b ≡ true → a || c ≡ true
+or-second true b c h e = refl
+or-second false b c h e = h e
+
 pub or-true : (a b : Bool) → b ≡ true → a || b ≡ true
 or-true true b e = refl
 or-true false b e = e
@@ -57,6 +71,14 @@ lower {A} n k f g = by-test (ltb n k) refl
     by-test : (b : Bool) → ltb n k ≡ b → A
     by-test true e = f (ltb-true n k e)
     by-test false e = g (ltb-false n k e)
+
+-- a smaller number passes each bound
+pub smaller : (m n k : ℕ) → m ≤ n → leb n k ≡ true → leb m k ≡ true
+smaller m n k h e = le-leb m k (omega (arith, leb-true n k e))
+
+-- the test of equality goes both ways
+pub eqb-turned : (m n : ℕ) → eqb m n ≡ eqb n m
+eqb-turned m n = either m n (λ e. eq-eqb m n e ∙ sym (eq-eqb n m (sym e))) (λ h. ne-eqb m n h ∙ sym (ne-eqb n m (λ e. h (sym e))))
 
 -- what passes in both cases passes
 pub cond-passes : {A : Type 0} (p : A → Bool) (b : Bool) (x y : A) → p x ≡ true → p y ≡ true → p (cond b x y) ≡ true

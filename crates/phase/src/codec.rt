@@ -142,7 +142,7 @@ pub fn put_phase(list: &mut [u8], at: usize, phase: Phase)
     }
 }
 
-// Whether how far an EAP session is stands in 2 octets.
+// Whether 2 octets say how far an EAP session is.
 fn is_turn(list: &[u8], at: usize) -> bool
     requires { ⌜ at + 2 ≤ length (now list) ⌝ }
     ensures { λ r. ⌜ r ≡ turnWritten (now (list .entry)) at ⌝ }

@@ -13,9 +13,9 @@ ghost use Prim.Native.Nat.{_≤_};
 ghost use lib.ListN.{take};
 ghost use Rattle.octets.specs.Row.{only};
 ghost use Rattle.network.specs.Plmn.{among, plmnOption};
-ghost use Rattle.config.specs.Settings.{settingsIn};
+ghost use Rattle.config.specs.Settings.{Counted, settingsIn};
 ghost use Rattle.lists.specs.Lists.{networksIn};
-ghost use Rattle.preference.specs.Branch.{whereFound, Counted};
+ghost use Rattle.preference.specs.Branch.{whereFound};
 ghost use Rattle.preference.specs.Preference.{barred, best, better, eligible, hasPlmns, networkOf, offered, preferred, provisioned, ranked, unranked, visited};
 
 // Whether there is a record among the first n.

@@ -9,7 +9,7 @@ use lib.ListN.{drop}
 use borrow.Author.Tests.{eq-eqb, eqb-true}
 use Rattle.octets.specs.Search.{anyOf}
 use Rattle.octets.specs.Row.{place, first, keep, only}
-use Rattle.octets.proofs.Search.{and-left, and-right, and-true}
+use Rattle.octets.proofs.Search.{and-left, and-right, and-true, or-true}
 use Rattle.network.specs.Plmn.{samePlmn, among}
 use Rattle.network.specs.declared.Plmn.{Plmn}
 use Rattle.address.specs.Address.{sameAddress, stands, permitted}
@@ -73,10 +73,6 @@ same-address (V4 x) (V6 h l) e = absurd (false≢true e)
 same-address (V6 h l) (V4 x) e = absurd (false≢true e)
 same-address (V6 h l) (V6 i m) e = ap₂ V6 (eqb-true h i (and-left (eqb h i) (eqb l m) e)) (eqb-true l m (and-right (eqb h i) (eqb l m) e))
 
-or-later : (a b : Bool) → b ≡ true → a || b ≡ true
-or-later true b e = refl
-or-later false b e = e
-
 -- S5: nothing is chosen exactly where no address of the list is permitted
 module _ (version : ℕ) (held : List Address) where
   abbrev p : Address → Bool
@@ -93,7 +89,7 @@ module _ (version : ℕ) (held : List Address) where
   nothing-left k [] h = refl
   nothing-left k (x ∷ xs) h =
       let barred-one : p x ≡ false = h x (ap (λ (t : Bool). t || stands x xs) (same-self x)) in
-      rw barred-one (nothing-left k xs (λ a e. h a (or-later (sameAddress a x) (stands a xs) e)))
+      rw barred-one (nothing-left k xs (λ a e. h a (or-true (sameAddress a x) (stands a xs) e)))
 
   none-permitted : (k n : ℕ) (xs : List Address) → left k xs ≡ some n → (n ≡ 4) × fails xs
   unfolding place foundAt stopFound stands anyOf
@@ -104,11 +100,11 @@ module _ (version : ℕ) (held : List Address) where
       go true q rec = absurd (not-there (sym (rw q) ∙ e))
       go false q rec =
           let rest = rec (sym (rw q) ∙ e) in
-          (rest .0, λ a s. first-or-later a (sameAddress a x) refl s (rest .1 a))
+          (rest .0, λ a s. first-or-true a (sameAddress a x) refl s (rest .1 a))
         where
-          first-or-later : (a : Address) (t : Bool) → sameAddress a x ≡ t → t || stands a xs ≡ true → (stands a xs ≡ true → p a ≡ false) → p a ≡ false
-          first-or-later a true m s later = ap p (same-address a x m) ∙ q
-          first-or-later a false m s later = later s
+          first-or-true : (a : Address) (t : Bool) → sameAddress a x ≡ t → t || stands a xs ≡ true → (stands a xs ≡ true → p a ≡ false) → p a ≡ false
+          first-or-true a true m s later = ap p (same-address a x m) ∙ q
+          first-or-true a false m s later = later s
 
   s5-exactly : (s : Settings) (xs : List Address) → Exactly (Ends s version held (addresses xs)) (stopFound (choose version held xs))
   unfolding choose
@@ -175,11 +171,11 @@ module _ (s : Settings) where
     where
       go : (t : Bool) → unbarred s q ≡ t → (first (unbarred s) qs ≡ none → barredAll qs) → barredAll (q ∷ qs)
       go true m rec = absurd (plmn-there {p = q} (sym (rw m) ∙ e))
-      go false m rec = λ p h. first-or-later p (samePlmn p q) refl h (rec (sym (rw m) ∙ e) p)
+      go false m rec = λ p h. first-or-true p (samePlmn p q) refl h (rec (sym (rw m) ∙ e) p)
         where
-          first-or-later : (p : Plmn) (t : Bool) → samePlmn p q ≡ t → t || among p qs ≡ true → (among p qs ≡ true → unbarred s p ≡ false) → unbarred s p ≡ false
-          first-or-later p true k h later = ap (unbarred s) (plmn-same p q k) ∙ m
-          first-or-later p false k h later = later h
+          first-or-true : (p : Plmn) (t : Bool) → samePlmn p q ≡ t → t || among p qs ≡ true → (among p qs ≡ true → unbarred s p ≡ false) → unbarred s p ≡ false
+          first-or-true p true k h later = ap (unbarred s) (plmn-same p q k) ∙ m
+          first-or-true p false k h later = later h
 
   module _ (ps : List Plmn) (all : barredAll ps) where
     free-none : (qs : List Plmn) → ((p : Plmn) → among p qs ≡ true → among p ps ≡ true) → first (unbarred s) qs ≡ none
@@ -187,7 +183,7 @@ module _ (s : Settings) where
     free-none [] within = refl
     free-none (q ∷ qs) within =
         let barred-one : unbarred s q ≡ false = all q (within q (ap (λ (t : Bool). t || among q qs) (self-plmn q))) in
-        rw barred-one (free-none qs (λ p e. within p (or-later (samePlmn p q) (among p qs) e)))
+        rw barred-one (free-none qs (λ p e. within p (or-true (samePlmn p q) (among p qs) e)))
 
     listed-none : (p : Plmn) → among p ps && unbarred s p ≡ false
     listed-none p = go (among p ps) refl

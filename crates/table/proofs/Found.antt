@@ -49,7 +49,7 @@ module _ (f : ℕ → Slot) (pair i : ℕ) (here : isOf pair (f i) ≡ true) whe
     replaced-from k (suc n) below within first =
         go-on k n below within first
         (λ e. rw (ap (λ (m : ℕ). isOf pair (f m)) e ∙ here)
-        (ap₂ (λ (t : Slot) (ts : List Slot). t ∷ ts) (ap g e ∙ own) (row-same f g (suc k) n (λ j h. others j (λ q. omega arith)))))
+        (ap₂ (λ (t : Slot) (ts : List Slot). t ∷ ts) (ap g e ∙ own) (row-same f g (suc k) n (λ j h m. others j (λ q. omega arith)))))
         (λ b w h. rw (first k (omega arith) b)
         (ap₂ (λ (t : Slot) (ts : List Slot). t ∷ ts) (others k (λ q. omega arith)) (replaced-from (suc k) n b w h)))
 

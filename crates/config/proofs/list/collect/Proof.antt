@@ -1,6 +1,7 @@
 -- `config::list::collect` meets its contract. The loop's invariant: the entries collected and those that are left make the whole, and no PLMN
 -- that is collected stands twice.
 use Prim.Native.Nat.{ℕ, _+_, _-_, _≤_, _<_}
+use mathlib.Core.Bool.{true}
 use mathlib.Core.List.{List, [], _∷_, _++_, map}
 use mathlib.Core.Path.{_≡_, refl, sym, ap, _∙_, subst}
 use native.Mathlib.Numerals.{add-one}
@@ -9,10 +10,12 @@ use lib.ListN.{length, take, set, length-set}
 use lib.Seq.{length-take-le, take-suc-set}
 use denote.Ref.{now}
 use borrow.Author.Needs.{needs}
+use Rattle.octets.specs.Search.{distinct}
 use Rattle.entry.specs.declared.field.Preferred.{Preferred}
+use Rattle.network.specs.Plmn.{samePlmn}
 use Rattle.config.specs.Lines.{entriesFrom}
 use Rattle.config.specs.Branch.{ListedIs}
-use Rattle.config.specs.Settings.{plmnIn, newAfter, asListed, run, rest}
+use Rattle.config.specs.Settings.{plmnIn, asListed, run, rest}
 use Rattle.config.specs.declared.list.Listed.{Listed}
 use Rattle.config.proofs.Collects.{not-accepted, all-collected, all-accepted, too-many, repeated, one-more, still-new}
 use Rattle.config.proofs.list.collect.Statement.{statement}
@@ -23,7 +26,7 @@ Inv-loop text start bars list₀ count₀ at₀ list count at =
     (at ≤ length text) × (count ≤ 16) × (length list ≡ 16)
     × (run (asListed bars) (entriesFrom text start) ≡ take count list ++ run (asListed bars) (entriesFrom text at))
     × (rest (asListed bars) (entriesFrom text start) ≡ rest (asListed bars) (entriesFrom text at))
-    × (newAfter [] (map plmnIn (run (asListed bars) (entriesFrom text start))) ≡ newAfter (map plmnIn (take count list)) (map plmnIn (run (asListed bars) (entriesFrom text at))))
+    × (distinct samePlmn (map plmnIn (take count list)) ≡ true)
 
 abbrev μ-loop : tie.MeasureT-loop
 μ-loop text start bars list₀ count₀ at₀ list count at = length text - at
@@ -42,6 +45,7 @@ falls : (at next n : ℕ) → at < next → next ≤ n → n - next < n - at
 falls at next n h k = omega arith
 
 loop-holds : tie.Need-loop-holds Inv-loop μ-loop
+unfolding distinct
 loop-holds c = (c .before .pre, search needs, search needs, refl, refl, refl)
 
 listed-at-requires : tie.Need-listed-at-requires Inv-loop μ-loop
@@ -128,8 +132,8 @@ loop-again c =
       length-set (at-loop .list) (at-loop .count) p ∙ at-loop .inv .2,
       one-more _ d _ (at-loop .inv .3) (at-loop .inv .5) p Y (one .0) ∙ ap (λ (l : List Preferred). l ++ Y) (sym longer),
       at-loop .inv .4 ∙ one .1,
-      still-new _ d _ (at-loop .inv .3) (at-loop .inv .5) p Y (one .0) (sym (c .before .has-preferred .ensures) ∙ c .if2 .left)
-          ∙ ap (λ (l : List Preferred). newAfter (map plmnIn l) (map plmnIn Y)) (sym longer),
+      ap (λ (l : List Preferred). distinct samePlmn (map plmnIn l)) longer
+          ∙ still-new _ d _ (at-loop .inv .3) (at-loop .inv .5) p Y (one .0) (sym (c .before .has-preferred .ensures) ∙ c .if2 .left),
     )
 
 pub collect-spec : {M : Type 1} → statement M

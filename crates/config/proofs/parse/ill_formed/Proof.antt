@@ -7,7 +7,7 @@ use Rattle.config.proofs.parse.ill_formed.Tie as tie
 
 returns : tie.Need-returns
 unfolding parsed
-returns c = (refl, λ text. record { plmns-within = zero-le; bars-within = zero-le; name-within = tt })
+returns c = (refl, λ text. record { counted = record { plmns-within = zero-le; bars-within = zero-le }; name-within = tt })
 
 pub ill-formed-spec : {M : Type 1} → statement M
 ill-formed-spec = tie.close (tie.spec returns)

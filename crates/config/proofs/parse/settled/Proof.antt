@@ -46,8 +46,10 @@ returns-4 c =
       ap (λ (n : Node). some (record { home = c .before .before .before .before .before .before .before .before .before .before .before .before .args .home; node = n; plmns = take (P .count) (P .list); bars = map plmnIn (take (Q .count) (Q .list)) })) (c .before .before .before .before .before .before .before .before .before .before .node-at .ensures .node-is)
           ∙ finished _ _ _ _ _ (c .before .before .before .before .before .before .before .before .before .before .node-at .ensures .rest-is) _ (c .before .before .before .before .before .before .before .before .before .collect .ensures) (not-false _ (c .before .before .before .before .before .before .before .if1 .left)) _ (c .before .before .before .before .before .before .collect2 .ensures) (not-false _ (c .before .before .before .before .if2 .left)) (c .before .before .if3 .left),
       record {
-        plmns-within = c .before .before .before .before .before .before .before .before .before .collect .ensures .count-within;
-        bars-within = c .before .before .before .before .before .before .collect2 .ensures .count-within;
+        counted = record {
+          plmns-within = c .before .before .before .before .before .before .before .before .before .collect .ensures .count-within;
+          bars-within = c .before .before .before .before .before .before .collect2 .ensures .count-within;
+        };
         name-within = c .before .before .before .before .before .before .before .before .before .before .node-at .ensures .name-within;
       },
     )
