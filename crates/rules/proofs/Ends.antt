@@ -1,0 +1,127 @@
+-- Congestion: the line rests, and its address is held by the timer.
+use Prim.Native.Nat.{ℕ, _+_, _^_, _≤_, _<_}
+use mathlib.Core.Bool.{Bool, true, false, _&&_}
+use mathlib.Core.List.{[], _∷_, _++_, append-nil, map}
+use mathlib.Core.Option.{Option, none, some}
+use mathlib.Core.Path.{_≡_, refl, sym, ap, ap₂, _∙_, subst}
+use native.Mathlib.Omega.{arith}
+use lib.Dec.{leb, ltb}
+use lib.ListN.{length, length-append}
+use borrow.Author.Tests.{le-leb, leb-true, lt-ltb, ltb-true, not-true}
+use Rattle.octets.specs.Search.{all}
+use Rattle.octets.proofs.Search.{all-each, and-left, and-right, and-true, eqb-turned}
+use Rattle.octets.proofs.Sublists.{all-last, any-map, distinct-last, distinct-map}
+use Rattle.address.specs.Address.{addressIn, sameAddress, stands}
+use Rattle.address.specs.declared.Address.{Address}
+use Rattle.address.specs.declared.Address.the-variants.{V4, V6}
+use Rattle.address.specs.declared.End.the-variants.{At, Never}
+use Rattle.address.specs.declared.Hold.{Hold}
+use Rattle.addresses.specs.Laws.{addressHeld}
+use Rattle.holds.specs.Holds.{different, endAfter, endsAfter}
+use Rattle.holds.specs.Laws.{endHeld, holdHeld}
+use Rattle.phase.specs.Laws.{phaseHeld}
+use Rattle.phase.specs.Phase.{phaseFits}
+use Rattle.phase.specs.declared.Phase.the-variants.{Idle}
+use Rattle.record.specs.Line.{Line}
+use Rattle.record.specs.Sound.{chosen, isFree, isIdle, isLive}
+use Rattle.timer.specs.Timer.{timerOf, unitSeconds}
+use Rattle.timer.specs.declared.Timer.{Timer}
+use Rattle.timer.specs.declared.Timer.the-variants as Timer
+use Rattle.rules.specs.Life.{congested, heldBy, holdBy, inPhase}
+use Rattle.rules.proofs.Moves.{children-stay, rests, room-left}
+use Rattle.rules.proofs.Phases.{chosen-held}
+use Rattle.rules.proofs.Valid.{HoldsValid, Valid}
+
+-- the test of equal addresses goes both ways
+address-turned : (a b : Address) → sameAddress a b ≡ sameAddress b a
+unfolding sameAddress
+address-turned (V4 x) (V4 y) = eqb-turned x y
+address-turned (V4 x) (V6 h l) = refl
+address-turned (V6 h l) (V4 y) = refl
+address-turned (V6 h l) (V6 i m) = ap₂ (λ (s t : Bool). s && t) (eqb-turned h i) (eqb-turned l m)
+
+-- a timer of 1 second to 31 times 320 hours, without end, or none
+timerFits : Timer → Bool
+timerFits Timer.None = true
+timerFits (Timer.Seconds n) = ltb 0 n && leb n 35_712_000
+timerFits Timer.Deactivated = true
+
+octetFits : ℕ → Bool
+octetFits n = timerFits (timerOf n)
+
+-- every timer octet says such a timer
+timer-fits : (octet : ℕ) → octet ≤ 255 → timerFits (timerOf octet) ≡ true
+unfolding octetFits timerFits timerOf unitSeconds all
+timer-fits octet h = all-each 256 octetFits refl octet (omega arith)
+
+-- the end of a hold of n seconds
+module _ (time n : ℕ) (small : ltb time (256 ^ 4) ≡ true) (fits : ltb 0 n && leb n 35_712_000 ≡ true) where
+  some-seconds : 0 < n
+  some-seconds = ltb-true 0 n (and-left (ltb 0 n) (leb n 35_712_000) fits)
+
+  end-late : ltb time (time + n) ≡ true
+  end-late = lt-ltb time (time + n) (omega (arith, some-seconds))
+
+  end-held : ltb 0 (time + n) && ltb (time + n) (256 ^ 5) ≡ true
+  end-held =
+      let few : n ≤ 35_712_000 = leb-true n 35_712_000 (and-right (ltb 0 n) (leb n 35_712_000) fits) in
+      let early : time < 256 ^ 4 = ltb-true time (256 ^ 4) small in
+      and-true (ltb 0 (time + n)) (ltb (time + n) (256 ^ 5)) (lt-ltb 0 (time + n) (omega (arith, some-seconds))) (lt-ltb (time + n) (256 ^ 5) (omega arith))
+
+module _ (x : Line) (v : Valid x) (calm : isLive (x .phase) ≡ false) (busy : isIdle (x .phase) ≡ false) where
+  -- the holds as they were
+  same-holds : HoldsValid (x .time) Idle (x .holds ++ [])
+  unfolding inPhase
+  same-holds = subst (HoldsValid (x .time) Idle) (sym (append-nil (x .holds))) (rests x v calm .holds-valid)
+
+  -- a hold of the chosen address
+  module _ (h : Hold) (own : chosen (x .phase) ≡ some (h .address)) where
+    own-free : stands (h .address) (map addressIn (x .holds)) ≡ false
+    unfolding isFree
+    own-free =
+        not-true (stands (h .address) (map addressIn (x .holds)))
+        (ap (λ (o : Option Address). isFree o (map addressIn (x .holds))) (sym own) ∙ v .holds-valid .free)
+
+    more-different : different (map addressIn (x .holds ++ h ∷ [])) ≡ true
+    unfolding different stands addressIn
+    more-different =
+        distinct-map addressIn sameAddress (x .holds ++ h ∷ [])
+        ∙ distinct-last (λ g k. sameAddress (addressIn g) (addressIn k)) (λ g k. address-turned (addressIn g) (addressIn k)) (x .holds) h
+        (sym (any-map addressIn (sameAddress (h .address)) (x .holds)) ∙ own-free) (sym (distinct-map addressIn sameAddress (x .holds)) ∙ v .holds-valid .differ)
+
+    one-hold : endsAfter (x .time) h ≡ true → holdHeld h ≡ true → HoldsValid (x .time) Idle (x .holds ++ h ∷ [])
+    unfolding isIdle isFree chosen
+    one-hold late held =
+        let o = v .holds-valid in
+        record {
+          few = le-leb (length (x .holds ++ h ∷ [])) 8 (omega (arith, length-append (x .holds) (h ∷ []), leb-true (length (x .holds)) 7 (room-left x v calm busy)));
+          room = refl;
+          differ = more-different;
+          free = refl;
+          late = all-last (endsAfter (x .time)) (x .holds) h (o .late) late;
+          held = all-last holdHeld (x .holds) h (o .held) held;
+        }
+
+  -- the hold that the timer sets, or none
+  more-holds : (o : Option Address) → chosen (x .phase) ≡ o → (t : Timer) → timerFits t ≡ true → HoldsValid (x .time) Idle (x .holds ++ heldBy (x .time) t o)
+  unfolding heldBy holdBy timerFits endsAfter endAfter holdHeld endHeld
+  more-holds none e t fits = same-holds
+  more-holds (some a) e Timer.None fits = same-holds
+  more-holds (some a) e (Timer.Seconds n) fits =
+      let own = chosen-held (x .phase) a e (v .phase-valid .held) in
+      let end = x .time + n in
+      let held = and-true (addressHeld a) (ltb 0 end && ltb end (256 ^ 5)) own (end-held (x .time) n (v .small) fits) in
+      one-hold (record { address = a; end = At end }) e (end-late (x .time) n (v .small) fits) held
+  more-holds (some a) e Timer.Deactivated fits =
+      let own = chosen-held (x .phase) a e (v .phase-valid .held) in
+      one-hold (record { address = a; end = Never }) e refl (and-true (addressHeld a) true own refl)
+
+  -- a line with a chosen address and a timer octet
+  pub congested-valid : (octet : ℕ) → octet ≤ 255 → Valid (congested x (timerOf octet))
+  unfolding congested phaseFits phaseHeld
+  congested-valid octet h = record {
+    small = v .small;
+    phase-valid = record { fits = refl; held = refl };
+    children-valid = children-stay x v calm Idle;
+    holds-valid = more-holds (chosen (x .phase)) refl (timerOf octet) (timer-fits octet h);
+  }

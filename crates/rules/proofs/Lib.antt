@@ -1,0 +1,19 @@
+-- The proofs of the claims.
+pub mod Accepted
+pub mod Acts
+pub mod Children
+pub mod Current
+pub mod Eap
+pub mod Ends
+pub mod Isolation
+pub mod Keeps
+pub mod Moves
+pub mod Nodes
+pub mod Phases
+pub mod Refused
+pub mod Runs
+pub mod Selecting
+pub mod Timed
+pub mod Tunnels
+pub mod Valid
+pub mod Views

@@ -1,0 +1,118 @@
+-- What a phase is by a test that it passes, and what its data are.
+use Prim.Native.Nat.{ℕ}
+use mathlib.Core.Bool.{Bool, true, false, false≢true}
+use mathlib.Core.Option.{some}
+use mathlib.Core.Path.{_≡_, refl, sym, ap, _∙_}
+use lib.Dec.{ltb}
+use Rattle.octets.specs.Part.{same}
+use Rattle.octets.proofs.Search.{and-left, and-right}
+use Rattle.address.specs.declared.Address.{Address}
+use Rattle.addresses.specs.Laws.{addressHeld}
+use Rattle.phase.specs.Facts.{factsFit}
+use Rattle.phase.specs.Laws.{phaseHeld, turnHeld}
+use Rattle.phase.specs.Phase.{isAbroad, phaseFits}
+use Rattle.phase.specs.declared.Phase.{Phase}
+use Rattle.phase.specs.declared.Phase.the-variants.{Idle, Country, Name, Chosen, Init, Auth, Eap, Sure, Live}
+use Rattle.phase.specs.declared.Turn.{Turn}
+use Rattle.phase.specs.declared.Turn.the-variants.{First, Owed, Answered}
+use Rattle.place.specs.declared.Facts.{Facts}
+use Rattle.record.specs.Sound.{chosen, isIdle, isLive}
+use Rattle.text.specs.Text.{text}
+use Rattle.rules.specs.Phases.{factsIn, isIn, owed, turnIn, word}
+use Rattle.rules.specs.Refusals.{isSome}
+
+-- a phase that passes a test which no live line passes
+pub not-live : (t : Phase → Bool) → ((a : Address) → t (Live a) ≡ false) → (p : Phase) → t p ≡ true → isLive p ≡ false
+unfolding isLive
+not-live t h Idle e = refl
+not-live t h (Country f) e = refl
+not-live t h (Name f) e = refl
+not-live t h (Chosen a) e = refl
+not-live t h (Init a) e = refl
+not-live t h (Auth a) e = refl
+not-live t h (Eap a i) e = refl
+not-live t h (Sure a) e = refl
+not-live t h (Live a) e = absurd (false≢true (sym (h a) ∙ e))
+
+-- a phase that passes a test which no idle line passes
+pub not-idle : (t : Phase → Bool) → t Idle ≡ false → (p : Phase) → t p ≡ true → isIdle p ≡ false
+unfolding isIdle
+not-idle t h Idle e = absurd (false≢true (sym h ∙ e))
+not-idle t h (Country f) e = refl
+not-idle t h (Name f) e = refl
+not-idle t h (Chosen a) e = refl
+not-idle t h (Init a) e = refl
+not-idle t h (Auth a) e = refl
+not-idle t h (Eap a i) e = refl
+not-idle t h (Sure a) e = refl
+not-idle t h (Live a) e = refl
+
+-- the word of a live line
+pub is-live : (p : Phase) → isIn "live" p ≡ true → isLive p ≡ true
+unfolding isIn word text same isLive
+is-live Idle e = e
+is-live (Country f) e = e
+is-live (Name f) e = e
+is-live (Chosen a) e = e
+is-live (Init a) e = e
+is-live (Auth a) e = e
+is-live (Eap a t) e = e
+is-live (Sure a) e = e
+is-live (Live a) e = refl
+
+-- the chosen address of a phase
+module _ (p : Phase) (a : Address) (e : chosen p ≡ some a) where
+  -- only a line that isn't idle has one
+  pub chosen-busy : isIdle p ≡ false
+  unfolding chosen isSome
+  chosen-busy = not-idle (λ q. isSome (chosen q)) refl p (ap isSome e)
+
+-- the chosen address fits its octets
+pub chosen-held : (p : Phase) (a : Address) → chosen p ≡ some a → phaseHeld p ≡ true → addressHeld a ≡ true
+unfolding chosen phaseHeld
+chosen-held Idle a e h = cc
+chosen-held (Country f) a e h = cc
+chosen-held (Name f) a e h = cc
+chosen-held (Chosen b) a e h = cc
+chosen-held (Init b) a e h = cc
+chosen-held (Auth b) a e h = cc
+chosen-held (Eap b t) a e h = let k = and-left (addressHeld b) (turnHeld t) h in cc
+chosen-held (Sure b) a e h = cc
+chosen-held (Live b) a e h = cc
+
+-- only a line that isn't idle keeps place facts
+pub facts-busy : (p : Phase) (f : Facts) → factsIn p ≡ some f → isIdle p ≡ false
+unfolding factsIn isSome
+facts-busy p f e = not-idle (λ q. isSome (factsIn q)) refl p (ap isSome e)
+
+-- the place facts of a phase are in their ranges
+pub facts-fit : (p : Phase) (f : Facts) → factsIn p ≡ some f → phaseFits p ≡ true → factsFit f ≡ true
+unfolding factsIn phaseFits
+facts-fit Idle f e h = cc
+facts-fit (Country g) f e h = let k = and-left (factsFit g) (isAbroad (g .place)) h in cc
+facts-fit (Name g) f e h = cc
+facts-fit (Chosen a) f e h = cc
+facts-fit (Init a) f e h = cc
+facts-fit (Auth a) f e h = cc
+facts-fit (Eap a t) f e h = cc
+facts-fit (Sure a) f e h = cc
+facts-fit (Live a) f e h = cc
+
+-- an identifier that is owed is one octet
+owed-held : (t : Turn) (i : ℕ) → owed (some t) ≡ some i → turnHeld t ≡ true → ltb i 256 ≡ true
+unfolding owed turnHeld
+owed-held (First j) i e h = cc
+owed-held (Owed j) i e h = cc
+owed-held (Answered j) i e h = cc
+
+pub identifier-held : (p : Phase) (i : ℕ) → owed (turnIn p) ≡ some i → phaseHeld p ≡ true → ltb i 256 ≡ true
+unfolding turnIn owed phaseHeld
+identifier-held Idle i e h = cc
+identifier-held (Country f) i e h = cc
+identifier-held (Name f) i e h = cc
+identifier-held (Chosen a) i e h = cc
+identifier-held (Init a) i e h = cc
+identifier-held (Auth a) i e h = cc
+identifier-held (Eap a t) i e h = owed-held t i e (and-right (addressHeld a) (turnHeld t) h)
+identifier-held (Sure a) i e h = cc
+identifier-held (Live a) i e h = cc

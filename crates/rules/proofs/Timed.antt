@@ -1,0 +1,136 @@
+-- What an accepted timed call on a line answers and leaves.
+use Prim.Native.Nat.{ℕ}
+use mathlib.Core.Bool.{Bool, cond}
+use mathlib.Core.List.{List, [], _∷_}
+use mathlib.Core.Option.{Option, none, some}
+use mathlib.Core.Path.{_≡_, refl, sym, ap, _∙_, subst}
+use native.Mathlib.Omega.{arith}
+use lib.Dec.{eqb, ltb}
+use lib.ListN.{getD}
+use borrow.Author.Tests.{eq-eqb}
+use Rattle.octets.specs.Refusal.{refusal}
+use Rattle.address.specs.declared.Address.{Address}
+use Rattle.config.specs.Settings.{Settings, configOf}
+use Rattle.gateway.specs.Gateway.{choose}
+use Rattle.gateway.specs.declared.Found.{Found}
+use Rattle.gateway.specs.declared.Found.the-variants as Found
+use Rattle.lists.specs.Lists.{addressesIn, networksIn}
+use Rattle.place.specs.declared.Facts.{Facts}
+use Rattle.record.specs.Line.{Line}
+use Rattle.selection.specs.Selection as Selection
+use Rattle.selection.specs.Stops.{Ends, Exactly, addresses, countryStep, startStep, stopFound, stopOf}
+use Rattle.selection.specs.declared.Choice.{Choice}
+use Rattle.selection.specs.declared.Choice.the-variants as Choice
+use Rattle.selection.proofs.Ends.{stops-exactly}
+use Rattle.table.specs.Slots.{lineAt, pairIn, slotLine, slotsOf}
+use Rattle.table.specs.Table.{isTable}
+use Rattle.rules.specs.Answer.{numbersOf, twelve}
+use Rattle.rules.specs.Call.{Given, Event, start, country, address, Call, timed, factsOf, pairOf, tenantOf}
+use Rattle.rules.specs.Claims.{Timed, lineIn, stopSaid}
+use Rattle.rules.specs.Life.{Outcome, addressed, answered, asking, current, decided, found, goes, held, outcome, started}
+use Rattle.rules.specs.Phases.{factsIn}
+use Rattle.rules.specs.Refusals.{refusalsOf}
+use Rattle.rules.specs.Run.{Result, Step, View, answerOf, lineOr, run, step, stepOf, timedStep, viewOf}
+use Rattle.rules.proofs.Accepted.{event-number, own-is, ready, timed-pair}
+use Rattle.rules.proofs.Acts.{act-line, lineAfter}
+use Rattle.rules.proofs.Refused.{given-is}
+use Rattle.rules.proofs.Runs.{accepted, number}
+
+module _ (tenant line time : ℕ) (e : Event) (l : List ℕ) (x : Line) (t : Timed tenant line time e l x) where
+  abbrev c : Call
+  c = timed tenant line time e
+
+  abbrev v : View
+  v = viewOf (isTable l) tenant (slotsOf l)
+
+  abbrev o : Outcome
+  o = outcome e (current time x)
+
+  no-number : number c l ≡ 0
+  no-number = sym (given-is c l) ∙ t .accepted
+
+  own-line : getD (v .lines) line none ≡ some x
+  unfolding stepOf step tenantOf lineIn
+  own-line = own-is tenant line (timed-pair tenant line time e v (getD (v .lines) line none) no-number) (slotsOf l) (isTable l) ∙ t .stands
+
+  -- the step is that of the line
+  line-step : stepOf c l ≡ timedStep tenant line time e v (some x)
+  unfolding stepOf step tenantOf
+  line-step = ap (timedStep tenant line time e v) own-line
+
+  -- none of the event's conditions holds
+  pub no-ground : refusal (refusalsOf e (ltb 4294967295 time) (current time x)) ≡ 0
+  no-ground = event-number tenant line time e v x (ap (λ (s : Step). refusal (s .refusals)) (sym line-step) ∙ no-number)
+
+  answer-is : run c l .answer ≡ answerOf e o
+  unfolding timedStep lineOr
+  answer-is = ap (λ (r : Result). r .answer) (accepted c l no-number) ∙ ap (λ (s : Step). s .answer) line-step
+
+  line-is : lineIn (run c l .table) tenant line ≡ some (o .line)
+  unfolding lineIn timedStep lineOr lineAfter pairIn slotLine pairOf
+  line-is =
+      let p = pairOf tenant line in
+      ap (λ (r : Result). lineAt p (slotsOf (r .table))) (accepted c l no-number)
+      ∙ act-line l (t .good) (stepOf c l .act) (ready c l (t .octets) (t .good) no-number) p (omega arith)
+      ∙ ap (λ (s : Step). lineAfter (s .act) p (lineAt p (slotsOf l))) line-step
+      ∙ ap (λ (b : Bool). cond b (some (o .line)) (cond (eqb p p) none (lineAt p (slotsOf l)))) (eq-eqb p p refl)
+
+  pub timed-run : (run c l .answer ≡ answerOf e o) × (lineIn (run c l .table) tenant line ≡ some (o .line))
+  timed-run = (answer-is, line-is)
+
+-- where an outcome's answer says that selection stopped
+module _ (e : Event) (x : Line) where
+  found-stop : (f : Found) → stopSaid (answerOf e (found x f)) ≡ stopFound f
+  unfolding stopSaid answerOf found goes numbersOf twelve stopFound
+  found-stop (Found.Chosen a k) = refl
+  found-stop (Found.Nothing k) = refl
+
+  decided-stop : (f : Facts) (text : List ℕ) (choice : Choice) → stopSaid (answerOf e (decided x f text choice)) ≡ stopOf (f .version) (held x) choice
+  unfolding stopSaid answerOf decided goes asking numbersOf twelve stopOf
+  decided-stop f text (Choice.Stop n) = refl
+  decided-stop f text (Choice.Country mcc) = refl
+  decided-stop f text (Choice.Text at n) = refl
+  decided-stop f text (Choice.Network p) = refl
+  decided-stop f text (Choice.Address a) = found-stop (choose (f .version) (held x) (a ∷ []))
+
+-- a claim about what is said, from one about what the definitions stop at
+carried : {ends : ℕ → Type 0} {said stop : Option ℕ} → said ≡ stop → Exactly ends stop → Exactly ends said
+carried {ends} q h = subst (λ (o : Option ℕ). Exactly ends o) (sym q) h
+
+module _ (tenant line time : ℕ) (l : List ℕ) (x : Line) (s : Settings) where
+  pub stops-start : (g : Given) (text : List ℕ) (room : ℕ) → Timed tenant line time (start g text room) l x → configOf text ≡ some s
+      → Exactly (Ends s (g .version) (held (current time x)) (startStep s (factsOf g .place))) (stopSaid (run (timed tenant line time (start g text room)) l .answer))
+  unfolding outcome started factsOf
+  stops-start g text room t q =
+      let e = start g text room in
+      let y = current time x in
+      carried
+      (ap stopSaid (timed-run tenant line time e l x t .0) ∙ ap (λ (o : Option Settings). stopSaid (answerOf e (started y (factsOf g) text o))) q ∙ decided-stop e y (factsOf g) text (Selection.start s (factsOf g)))
+      (stops-exactly .at-start s (factsOf g) (held y))
+
+  module _ (f : Facts) (facts : factsIn (x .phase) ≡ some f) where
+    pub stops-country : (replied : ℕ) (networks text : List ℕ) (room : ℕ) → Timed tenant line time (country replied networks text room) l x → configOf text ≡ some s
+        → Exactly (Ends s (f .version) (held (current time x)) (countryStep s (f .place) (Selection.answered (eqb replied 1) (networksIn networks))))
+        (stopSaid (run (timed tenant line time (country replied networks text room)) l .answer))
+    unfolding outcome answered current
+    stops-country replied networks text room t q =
+        let e = country replied networks text room in
+        let y = current time x in
+        let ps = Selection.answered (eqb replied 1) (networksIn networks) in
+        carried
+        (ap stopSaid (timed-run tenant line time e l x t .0)
+        ∙ ap (λ (o : Option Facts). stopSaid (answerOf e (answered y o ps text (configOf text)))) facts
+        ∙ ap (λ (o : Option Settings). stopSaid (answerOf e (answered y (some f) ps text o))) q
+        ∙ decided-stop e y f text (Selection.country s f ps))
+        (stops-exactly .at-country s f (held y) ps)
+
+    pub stops-address : (list : List ℕ) → Timed tenant line time (address list) l x
+        → Exactly (Ends s (f .version) (held (current time x)) (addresses (addressesIn list))) (stopSaid (run (timed tenant line time (address list)) l .answer))
+    unfolding outcome addressed current
+    stops-address list t =
+        let e = address list in
+        let y = current time x in
+        carried
+        (ap stopSaid (timed-run tenant line time e l x t .0) ∙ ap (λ (o : Option Facts). stopSaid (answerOf e (addressed y o (addressesIn list)))) facts
+        ∙ found-stop e y (choose (f .version) (held y) (addressesIn list)))
+        (stops-exactly .at-address s (f .version) (held y) (addressesIn list))

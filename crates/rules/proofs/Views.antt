@@ -1,0 +1,77 @@
+-- Tables that are alike to a tenant: what its calls see of them, and what anybody's open or close sees.
+use Prim.Native.Nat.{ℕ, suc, _≤_, _<_}
+use mathlib.Core.Bool.{Bool, false, not}
+use mathlib.Core.List.{List, [], _∷_}
+use mathlib.Core.Option.{Option, none}
+use mathlib.Core.Path.{_≡_, refl, sym, ap, _∙_, subst}
+use native.Mathlib.Nat.{zero-add}
+use native.Mathlib.Omega.{arith}
+use lib.Dec.{ltb}
+use lib.ListN.{getD}
+use Rattle.octets.specs.Refusal.{_when_, refusal}
+use Rattle.octets.proofs.Counts.{count-same}
+use Rattle.octets.proofs.Rows.{getD-past, getD-row, row-same}
+use Rattle.octets.proofs.Search.{lower}
+use Rattle.record.specs.Line.{Line}
+use Rattle.table.specs.Slots.{hasLine, isOpen, isTaken, openPairs, slotsOf}
+use Rattle.table.specs.Table.{isTable}
+use Rattle.table.proofs.Lookups.{open-line}
+use Rattle.table.proofs.Views.{room}
+use Rattle.rules.specs.Call.{Call, opening, closing, pairOf, tenantOf}
+use Rattle.rules.specs.Claims.{Alike}
+use Rattle.rules.specs.Run.{View, isNoPair, ownLine, step, stepOf, viewOf}
+use Rattle.rules.proofs.Runs.{number}
+
+view-equal : {s t f g : Bool} {xs ys : List (Option Line)} → s ≡ t → f ≡ g → xs ≡ ys
+    → _≡_ {A = View} (record { sound = s; free = f; lines = xs }) (record { sound = t; free = g; lines = ys })
+view-equal p q r = λ i. record { sound = p i; free = q i; lines = r i }
+
+module _ (a : ℕ) (l m : List ℕ) (alike : Alike a l m) where
+  same-sound : isTable l ≡ isTable m
+  same-sound = alike .left .sound ∙ sym (alike .right .sound)
+
+  -- room follows from the open pairs
+  same-free : isOpen 0 (slotsOf l) ≡ isOpen 0 (slotsOf m)
+  unfolding openPairs isTaken
+  same-free =
+      room l (alike .left .sound)
+      ∙ ap (λ (k : ℕ). ltb k 32) (count-same 64 (isTaken (slotsOf l)) (isTaken (slotsOf m)) (λ k h. alike .opened (suc k) (omega arith)))
+      ∙ sym (room m (alike .right .sound))
+
+  -- the tenant's own view
+  pub same-view : viewOf (isTable l) a (slotsOf l) ≡ viewOf (isTable m) a (slotsOf m)
+  unfolding viewOf ownLine
+  same-view = view-equal same-sound same-free (row-same (ownLine a (slotsOf m)) (ownLine a (slotsOf l)) 0 4 (λ i h m. alike .lines i (omega arith)))
+
+  pub same-step : (c : Call) → tenantOf c ≡ a → stepOf c l ≡ stepOf c m
+  unfolding stepOf
+  same-step c e = subst (λ (t : ℕ). step c (viewOf (isTable l) t (slotsOf l)) ≡ step c (viewOf (isTable m) t (slotsOf m))) (sym e) (ap (step c) same-view)
+
+  -- whether any tenant's line is open
+  module _ (tenant line : ℕ) where
+    abbrev has : List ℕ → Bool
+    has t = hasLine (getD (viewOf (isTable t) tenant (slotsOf t) .lines) line none)
+
+    there : (t : List ℕ) → line < 4 → has t ≡ isOpen (pairOf tenant line) (slotsOf t)
+    unfolding viewOf ownLine pairOf
+    there t h =
+        ap hasLine (getD-row (ownLine tenant (slotsOf t)) none 0 4 line h ∙ ap (ownLine tenant (slotsOf t)) (zero-add line))
+        ∙ sym (open-line (pairOf tenant line) (omega arith) (slotsOf t))
+
+    past : (t : List ℕ) → 4 ≤ line → has t ≡ false
+    unfolding viewOf hasLine
+    past t h = ap hasLine (getD-past (ownLine tenant (slotsOf t)) none 0 4 line h)
+
+    same-there : has l ≡ has m
+    unfolding pairOf
+    same-there =
+        lower line 4 (λ h. there l h ∙ alike .opened (pairOf tenant line) (omega arith) ∙ sym (there m h)) (λ h. past l h ∙ sym (past m h))
+
+    pub same-opening : (number (opening tenant line) l ≡ number (opening tenant line) m) × (stepOf (opening tenant line) l .act ≡ stepOf (opening tenant line) m .act)
+    unfolding stepOf step tenantOf viewOf
+    same-opening =
+        (λ i. refusal ((1 when not (same-sound i)) ∷ (2 when isNoPair tenant line) ∷ (4 when same-there i) ∷ (6 when not (same-free i)) ∷ []), refl)
+
+    pub same-closing : (number (closing tenant line) l ≡ number (closing tenant line) m) × (stepOf (closing tenant line) l .act ≡ stepOf (closing tenant line) m .act)
+    unfolding stepOf step tenantOf viewOf
+    same-closing = (λ i. refusal ((1 when not (same-sound i)) ∷ (2 when isNoPair tenant line) ∷ (5 when not (same-there i)) ∷ []), refl)

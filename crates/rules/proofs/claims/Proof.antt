@@ -1,0 +1,44 @@
+-- `rules::claims` meets its contract: each claim is proved below proofs/.
+use Rattle.response.proofs.Round.{write-read, read-write}
+use Rattle.response.proofs.Writing.{accepted, response-fits}
+use Rattle.rules.specs.Starred.{computed}
+use Rattle.rules.proofs.Isolation.{empty-good, isolation, isolation-from}
+use Rattle.rules.proofs.Refused.{refusal-leaves, refusal-lowest, refusal-none, refusal-range}
+use Rattle.rules.proofs.Runs.{closed-zero, run-slots, run-sound, taken-over-clean, taken-over-listed}
+use Rattle.rules.proofs.Timed.{stops-address, stops-country, stops-start, timed-run}
+use Rattle.rules.proofs.Tunnels.{tunnels-after, tunnels-deleted, tunnels-live, tunnels-made}
+use Rattle.rules.proofs.claims.Statement.{statement}
+use Rattle.rules.proofs.claims.Tie as tie
+
+returns : tie.Need-returns
+returns c = record {
+  refusal-lowest = refusal-lowest;
+  refusal-none = refusal-none;
+  refusal-range = refusal-range;
+  refusal-leaves = refusal-leaves;
+  empty-good = empty-good;
+  run-sound = run-sound;
+  run-slots = run-slots;
+  timed-run = timed-run;
+  stops-start = λ tenant line time g text room l x s t q. stops-start tenant line time l x s g text room t q;
+  stops-country = λ tenant line time replied networks text room l x s f t q e. stops-country tenant line time l x s f e replied networks text room t q;
+  stops-address = λ tenant line time list l x s f t e. stops-address tenant line time l x s f e list t;
+  tunnels-live = tunnels-live;
+  tunnels-after = tunnels-after;
+  tunnels-made = λ tenant line time spi session l x t. tunnels-made tenant line time spi l x session t;
+  tunnels-deleted = tunnels-deleted;
+  eap-round = record {
+    write-read = λ i p n room e. write-read i p n room (accepted i p n room e);
+    read-write = read-write;
+    response-fits = response-fits;
+  };
+  closed-zero = closed-zero;
+  taken-over-clean = taken-over-clean;
+  taken-over-listed = taken-over-listed;
+  isolation = isolation;
+  isolation-from = isolation-from;
+  starred = computed;
+}
+
+pub claims-spec : {M : Type 1} → statement M
+claims-spec = tie.close (tie.spec returns)

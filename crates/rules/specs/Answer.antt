@@ -1,0 +1,98 @@
+-- What a call answers, and the twelve numbers of each action.
+use Prim.Native.Nat.{ℕ}
+use mathlib.Core.List.{List, [], _∷_}
+use Rattle.octets.specs.Part.{zeros}
+use Rattle.address.specs.Address.{versionOf}
+use Rattle.address.specs.declared.Address.{Address}
+use Rattle.address.specs.declared.Address.the-variants.{V4, V6}
+use Rattle.rules.specs.Call.{Event, start, country, address, begin, init, eap, reply, final, error, congestion, give-up, child-made, child-deleted, ike-delete, Call, opening, closing, listing, timed}
+
+-- the refusal number or 0, the twelve numbers, the octets of the returned part, the answer buffer whole
+pub record Answer : Type 0 where
+  pub refusal : ℕ
+  pub numbers : List ℕ
+  pub part : List ℕ
+  pub buffer : List ℕ
+
+-- what the daemon has to do
+pub data Action : Type 0 where
+  nothing : Action
+  -- selection stopped: where, and how many addresses were passed over
+  stopped : ℕ → ℕ → Action
+  -- ask for the visited-country name: how many octets of the name buffer it has
+  ask-country : ℕ → Action
+  -- ask for the gateway name that lies in the text at a place, or in the name buffer
+  ask-text : ℕ → ℕ → Action
+  ask-built : ℕ → Action
+  -- an address is chosen, behind so many that were passed over
+  chose : Address → ℕ → Action
+  send-init : Action
+  send-auth-request : Action
+  ask-nas : Action
+  -- hand up NAS, which lies in the packet at a place
+  hand-up : ℕ → ℕ → Action
+  -- send so many octets of the reply buffer
+  send-response : ℕ → Action
+  send-auth : Action
+  live : Action
+  -- released, and whether an EAP session ended
+  released : ℕ → Action
+  -- hand the error up: whether an EAP session ended, and the number
+  error-up : ℕ → ℕ → Action
+  -- so many octets of the listing are written
+  listed : ℕ → Action
+
+-- version 4 in the low half alone
+unfoldable pub high : Address → ℕ
+high (V4 x) = 0
+high (V6 h l) = h
+
+unfoldable pub low : Address → ℕ
+low (V4 x) = x
+low (V6 h l) = l
+
+unfoldable pub twelve : ℕ → ℕ → ℕ → ℕ → ℕ → ℕ → ℕ → ℕ → ℕ → ℕ → ℕ → ℕ → List ℕ
+twelve a b c d e f g h i j k l = a ∷ b ∷ c ∷ d ∷ e ∷ f ∷ g ∷ h ∷ i ∷ j ∷ k ∷ l ∷ []
+
+-- action, stop, passed; the part: where it is, its start, its length; version, high, low; EAP ended, error, written
+unfoldable pub numbersOf : Action → List ℕ
+numbersOf nothing = twelve 0 0 0 0 0 0 0 0 0 0 0 0
+numbersOf (stopped n k) = twelve 1 n k 0 0 0 0 0 0 0 0 0
+numbersOf (ask-country n) = twelve 2 0 0 2 0 n 0 0 0 0 0 n
+numbersOf (ask-text at n) = twelve 3 0 0 1 at n 0 0 0 0 0 0
+numbersOf (ask-built n) = twelve 3 0 0 2 0 n 0 0 0 0 0 n
+numbersOf (chose a k) = twelve 4 0 k 0 0 0 (versionOf a) (high a) (low a) 0 0 0
+numbersOf send-init = twelve 5 0 0 0 0 0 0 0 0 0 0 0
+numbersOf send-auth-request = twelve 6 0 0 0 0 0 0 0 0 0 0 0
+numbersOf ask-nas = twelve 7 0 0 0 0 0 0 0 0 0 0 0
+numbersOf (hand-up at n) = twelve 8 0 0 3 at n 0 0 0 0 0 0
+numbersOf (send-response n) = twelve 9 0 0 0 0 0 0 0 0 0 0 n
+numbersOf send-auth = twelve 10 0 0 0 0 0 0 0 0 0 0 0
+numbersOf live = twelve 11 0 0 0 0 0 0 0 0 0 0 0
+numbersOf (released ended) = twelve 12 0 0 0 0 0 0 0 0 ended 0 0
+numbersOf (error-up ended n) = twelve 13 0 0 0 0 0 0 0 0 ended n 0
+numbersOf (listed n) = twelve 0 0 0 0 0 0 0 0 0 0 0 n
+
+-- how many octets the answer buffer has, none where there is no such buffer
+unfoldable pub eventRoom : Event → ℕ
+eventRoom (start g text room) = room
+eventRoom (country replied networks text room) = room
+eventRoom (address addresses) = 0
+eventRoom begin = 0
+eventRoom init = 0
+eventRoom (eap packet) = 0
+eventRoom (reply parameters nas room) = room
+eventRoom (final good) = 0
+eventRoom (error number) = 0
+eventRoom (congestion authenticated timer) = 0
+eventRoom give-up = 0
+eventRoom (child-made spi session) = 0
+eventRoom (child-deleted spi) = 0
+eventRoom ike-delete = 0
+
+-- a refused call returns only its number: the numbers 0, the part empty, the buffer zeros; open and close have no numbers
+unfoldable pub refused : ℕ → Call → Answer
+refused n (opening tenant line) = record { refusal = n; numbers = []; part = []; buffer = [] }
+refused n (closing tenant line) = record { refusal = n; numbers = []; part = []; buffer = [] }
+refused n (listing tenant room) = record { refusal = n; numbers = zeros 12; part = []; buffer = zeros room }
+refused n (timed tenant line time e) = record { refusal = n; numbers = zeros 12; part = []; buffer = zeros (eventRoom e) }

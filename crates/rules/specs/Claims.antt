@@ -1,0 +1,157 @@
+-- What is claimed of `run`, for every call, table and history; the function `claims` promises it.
+use Prim.Native.Nat.{ℕ, suc, _≤_, _<_}
+use mathlib.Core.Bool.{true, false, cond}
+use mathlib.Core.List.{List, [], _∷_, _++_, map}
+use mathlib.Core.Option.{Option, none, some}
+use mathlib.Core.Path.{_≡_}
+use lib.Dec.{eqb}
+use lib.ListN.{getD, length, set}
+use Rattle.octets.specs.Laws.{below}
+use Rattle.octets.specs.Part.{padded, zeros}
+use Rattle.octets.specs.Refusal.{Applies}
+use Rattle.octets.specs.Row.{only, row}
+use Rattle.octets.specs.Search.{allOf}
+use Rattle.children.specs.declared.Child.{Child}
+use Rattle.config.specs.Settings.{Settings, configOf}
+use Rattle.lists.specs.Lists.{addressesIn, networksIn}
+use Rattle.place.specs.declared.Facts.{Facts}
+use Rattle.record.specs.Line.{Line}
+use Rattle.response.specs.Laws as Response
+use Rattle.selection.specs.Selection as Selection
+use Rattle.selection.specs.Stops.{Ends, Exactly, addresses, countryStep, startStep}
+use Rattle.table.specs.Slots.{isOpen, lineAt, slotsOf}
+use Rattle.table.specs.Table.{isTable, recordOf, slot}
+use Rattle.rules.specs.Answer.{Answer, eventRoom}
+use Rattle.rules.specs.Call.{Given, Event, start, country, address, begin, init, eap, reply, final, error, congestion, give-up, child-made, child-deleted, ike-delete, Call, opening, closing, listing, timed, factsOf, pairOf}
+use Rattle.rules.specs.Histories.{answersTo, isOctets, remaining}
+use Rattle.rules.specs.Life.{current, held, isOther, outcome, withChildren}
+use Rattle.rules.specs.Listing.{listFrom}
+use Rattle.rules.specs.Phases.{factsIn, isIn}
+use Rattle.rules.specs.Run.{Result, answerOf, fresh, ownLine, run, stepOf}
+use Rattle.rules.specs.Slots.{runOn}
+use Rattle.rules.specs.Starred as Starred
+
+-- the number that a call gives
+unfoldable pub given : Call → List ℕ → ℕ
+given c l = run c l .answer .refusal
+
+-- a sound table of octets
+pub record Good (l : List ℕ) : Type 0 where
+  pub sound : isTable l ≡ true
+  pub octets : allOf (below 256) l ≡ true
+
+-- two sound tables in which a tenant has equal lines and the same pairs are open, in whichever records they sit
+pub record Alike (a : ℕ) (l m : List ℕ) : Type 0 where
+  pub left : Good l
+  pub right : Good m
+  pub lines : (line : ℕ) → line < 4 → lineAt (pairOf a line) (slotsOf l) ≡ lineAt (pairOf a line) (slotsOf m)
+  pub opened : (pair : ℕ) → 1 ≤ pair → isOpen pair (slotsOf l) ≡ isOpen pair (slotsOf m)
+
+-- how many octets the answer buffer of a call has
+unfoldable pub roomOf : Call → ℕ
+roomOf (opening tenant line) = 0
+roomOf (closing tenant line) = 0
+roomOf (listing tenant room) = room
+roomOf (timed tenant line time e) = eventRoom e
+
+-- what a refused call leaves
+pub record Left (c : Call) (l : List ℕ) (r : Result) : Type 0 where
+  pub table : r .table ≡ l
+  pub numbers : allOf (eqb 0) (r .answer .numbers) ≡ true
+  pub part : r .answer .part ≡ []
+  pub buffer : r .answer .buffer ≡ zeros (roomOf c)
+
+-- the line of a pair (tenant, line)
+unfoldable pub lineIn : List ℕ → ℕ → ℕ → Option Line
+lineIn l tenant line = lineAt (pairOf tenant line) (slotsOf l)
+
+-- where an answer says that selection stopped
+unfoldable pub stopSaid : Answer → Option ℕ
+stopSaid a = cond (eqb (getD (a .numbers) 0 0) 1) (some (getD (a .numbers) 1 0)) none
+
+-- the children after an event: one more for each child made, one less for each deleted, none after an IKE delete
+unfoldable pub childrenAfter : Event → List Child → List Child
+childrenAfter (start g text room) cs = cs
+childrenAfter (country replied networks text room) cs = cs
+childrenAfter (address list) cs = cs
+childrenAfter begin cs = cs
+childrenAfter init cs = cs
+childrenAfter (eap packet) cs = cs
+childrenAfter (reply parameters nas room) cs = cs
+childrenAfter (final good) cs = cs
+childrenAfter (error number) cs = cs
+childrenAfter (congestion authenticated timer) cs = cs
+childrenAfter give-up cs = cs
+childrenAfter (child-made spi session) cs = cs ++ record { spi = spi; session = session } ∷ []
+childrenAfter (child-deleted spi) cs = only (isOther spi) cs
+childrenAfter ike-delete cs = []
+
+-- an accepted timed call on a line of a sound table
+pub record Timed (tenant line time : ℕ) (e : Event) (l : List ℕ) (x : Line) : Type 0 where
+  pub octets : isOctets (timed tenant line time e) ≡ true
+  pub good : Good l
+  pub stands : lineIn l tenant line ≡ some x
+  pub accepted : given (timed tenant line time e) l ≡ 0
+
+pub record Claims : Type 0 where
+  -- the number given is the lowest whose condition holds, 0 exactly where none does; never above 13
+  pub refusal-lowest : (c : Call) (l : List ℕ) (n : ℕ) → Applies n (stepOf c l .refusals)
+      → Applies (given c l) (stepOf c l .refusals) × (given c l ≤ n)
+  pub refusal-none : (c : Call) (l : List ℕ) → ((n : ℕ) → Applies n (stepOf c l .refusals) → ⊥) → given c l ≡ 0
+  pub refusal-range : (c : Call) (l : List ℕ) → given c l ≤ 13
+  -- a refused call leaves the table as it was, every number 0, the part empty and the answer buffer zeros
+  pub refusal-leaves : (c : Call) (l : List ℕ) → (given c l ≡ 0 → ⊥) → Left c l (run c l)
+  -- the empty table is sound, and a sound table stays sound, whatever the call
+  pub empty-good : Good (zeros 7776)
+  pub run-sound : (c : Call) (l : List ℕ) → isOctets c ≡ true → Good l → Good (run c l .table)
+  -- on a sound table `run` does to the octets what the rules do to the slots
+  pub run-slots : (c : Call) (l : List ℕ) → isOctets c ≡ true → Good l
+      → (run c l .answer ≡ runOn c (slotsOf l) .answer) × (slotsOf (run c l .table) ≡ runOn c (slotsOf l) .slots)
+  -- an accepted timed call answers and leaves what its event's row says of the line as the call finds it
+  pub timed-run : (tenant line time : ℕ) (e : Event) (l : List ℕ) (x : Line) → Timed tenant line time e l x
+      → (run (timed tenant line time e) l .answer ≡ answerOf e (outcome e (current time x)))
+      × (lineIn (run (timed tenant line time e) l .table) tenant line ≡ some (outcome e (current time x) .line))
+  -- start, the country answer and the address answer stop exactly where the step reached has nothing that is permitted, with its number
+  pub stops-start : (tenant line time : ℕ) (g : Given) (text : List ℕ) (room : ℕ) (l : List ℕ) (x : Line) (s : Settings)
+      → Timed tenant line time (start g text room) l x → configOf text ≡ some s
+      → Exactly (Ends s (g .version) (held (current time x)) (startStep s (factsOf g .place))) (stopSaid (run (timed tenant line time (start g text room)) l .answer))
+  pub stops-country : (tenant line time replied : ℕ) (networks text : List ℕ) (room : ℕ) (l : List ℕ) (x : Line) (s : Settings) (f : Facts)
+      → Timed tenant line time (country replied networks text room) l x → configOf text ≡ some s → factsIn (x .phase) ≡ some f
+      → Exactly (Ends s (f .version) (held (current time x)) (countryStep s (f .place) (Selection.answered (eqb replied 1) (networksIn networks))))
+      (stopSaid (run (timed tenant line time (country replied networks text room)) l .answer))
+  pub stops-address : (tenant line time : ℕ) (list : List ℕ) (l : List ℕ) (x : Line) (s : Settings) (f : Facts)
+      → Timed tenant line time (address list) l x → factsIn (x .phase) ≡ some f
+      → Exactly (Ends s (f .version) (held (current time x)) (addresses (addressesIn list))) (stopSaid (run (timed tenant line time (address list)) l .answer))
+  -- children stand only on a live line, and only a child made adds one
+  pub tunnels-live : (tenant line : ℕ) (l : List ℕ) (x : Line) → Good l → lineIn l tenant line ≡ some x → isIn "live" (x .phase) ≡ false → x .children ≡ []
+  pub tunnels-after : (e : Event) (x : Line) → outcome e x .line .children ≡ childrenAfter e (x .children)
+  -- an accepted child made adds that one at the end of a live line and changes nothing else of the line as the call finds it
+  pub tunnels-made : (tenant line time spi session : ℕ) (l : List ℕ) (x : Line) → Timed tenant line time (child-made spi session) l x
+      → (isIn "live" (x .phase) ≡ true)
+      × (lineIn (run (timed tenant line time (child-made spi session)) l .table) tenant line
+      ≡ some (withChildren (current time x) (x .children ++ record { spi = spi; session = session } ∷ [])))
+  -- an accepted delete takes that one, and no other
+  pub tunnels-deleted : (tenant line time spi : ℕ) (l : List ℕ) (x : Line) → Timed tenant line time (child-deleted spi) l x
+      → (lineIn (run (timed tenant line time (child-deleted spi)) l .table) tenant line ≡ some (withChildren (current time x) (only (isOther spi) (x .children))))
+      × (suc (length (only (isOther spi) (x .children))) ≡ length (x .children))
+  -- writing and reading NAS responses undo each other
+  pub eap-round : Response.Laws
+  -- after an accepted close the pair's record is zeros and every other record has its octets
+  pub closed-zero : (tenant line : ℕ) (l : List ℕ) → Good l → given (closing tenant line) l ≡ 0
+      → (slot (run (closing tenant line) l .table) (recordOf l (pairOf tenant line)) ≡ zeros 243)
+      × ((j : ℕ) → (j ≡ recordOf l (pairOf tenant line) → ⊥) → slot (run (closing tenant line) l .table) j ≡ slot l j)
+  -- a line just opened is idle with no child, no hold and time 0, whatever the table was
+  pub taken-over-clean : (tenant line : ℕ) (l : List ℕ) → Good l → given (opening tenant line) l ≡ 0
+      → lineIn (run (opening tenant line) l .table) tenant line ≡ some fresh
+  -- and its tenant's listing says so: the lines as they were, with this one among them
+  pub taken-over-listed : (tenant line room : ℕ) (l : List ℕ) → Good l → given (opening tenant line) l ≡ 0 → 1024 ≤ room
+      → run (listing tenant room) (run (opening tenant line) l .table) .answer .buffer
+      ≡ padded room (listFrom 0 (set (row (ownLine tenant (slotsOf l)) 0 4) line (some fresh)))
+  -- if the same calls remain after striking out the other tenants' calls that are neither open nor close, a tenant gets the same answers
+  pub isolation : (a : ℕ) (g h : List Call) → allOf isOctets g ≡ true → allOf isOctets h ≡ true → remaining a g ≡ remaining a h
+      → answersTo a g (zeros 7776) ≡ answersTo a h (zeros 7776)
+  -- the same from any two tables that are alike to the tenant
+  pub isolation-from : (a : ℕ) (g h : List Call) → allOf isOctets g ≡ true → allOf isOctets h ≡ true → remaining a g ≡ remaining a h
+      → (l m : List ℕ) → Alike a l m → answersTo a g l ≡ answersTo a h m
+  -- document 01's starred examples
+  pub starred : map Starred.found Starred.starred ≡ map Starred.said Starred.starred

@@ -1,0 +1,20 @@
+-- The rules of document 01 as one definition, `run`, and what is claimed of it.
+pub mod Call
+pub mod Answer
+pub mod Phases
+pub mod Refusals
+pub mod Life
+pub mod Listing
+pub mod Run
+pub mod Histories
+pub mod Slots
+pub mod Computed
+pub mod Cases
+pub mod LifeExamples
+pub mod PhaseExamples
+pub mod SelectionExamples
+pub mod RefusalExamples
+pub mod FormExamples
+pub mod HoldExamples
+pub mod Starred
+pub mod Claims

@@ -1,0 +1,195 @@
+-- What an accepted event does to its line (document 01, 'Life of a line', the column 'After and action').
+use Prim.Native.Nat.{ℕ, _+_}
+use mathlib.Core.Bool.{Bool, true, false, cond, not}
+use mathlib.Core.List.{List, [], _∷_, _++_, map}
+use mathlib.Core.Option.{Option, none, some}
+use lib.Dec.{eqb}
+use lib.ListN.{length}
+use Rattle.octets.specs.Row.{only}
+use Rattle.address.specs.Address.{addressIn}
+use Rattle.address.specs.declared.Address.{Address}
+use Rattle.address.specs.declared.End.the-variants.{At, Never}
+use Rattle.address.specs.declared.Hold.{Hold}
+use Rattle.children.specs.declared.Child.{Child}
+use Rattle.config.specs.Settings.{Settings, configOf}
+use Rattle.eap.specs.Packet.{nasOf, readPacket}
+use Rattle.eap.specs.declared.Packet.{Packet}
+use Rattle.eap.specs.declared.Packet.the-variants.{Start, NasRequest, Success, NasResponse, Stop, Other}
+use Rattle.gateway.specs.Gateway.{choose}
+use Rattle.gateway.specs.declared.Found.{Found}
+use Rattle.gateway.specs.declared.Found.the-variants as Found
+use Rattle.holds.specs.Holds.{endsAfter}
+use Rattle.network.specs.declared.Plmn.{Plmn}
+use Rattle.lists.specs.Lists.{addressesIn, networksIn}
+use Rattle.phase.specs.declared.Phase.{Phase}
+use Rattle.phase.specs.declared.Phase.the-variants.{Idle, Country, Name, Chosen, Init, Auth, Eap, Sure, Live}
+use Rattle.phase.specs.declared.Turn.the-variants.{First, Owed, Answered}
+use Rattle.place.specs.declared.Facts.{Facts}
+use Rattle.query.specs.Query.{asked, built}
+use Rattle.record.specs.Line.{Line}
+use Rattle.record.specs.Sound.{chosen}
+use Rattle.response.specs.Response.{response}
+use Rattle.selection.specs.Selection as Selection
+use Rattle.selection.specs.declared.Choice.{Choice}
+use Rattle.selection.specs.declared.Choice.the-variants as Choice
+use Rattle.timer.specs.Timer.{timerOf}
+use Rattle.timer.specs.declared.Timer.{Timer}
+use Rattle.timer.specs.declared.Timer.the-variants as Timer
+use Rattle.rules.specs.Answer.{Action, nothing, stopped, ask-country, ask-text, ask-built, chose, send-init, send-auth-request, ask-nas, hand-up, send-response, send-auth, live, released, error-up}
+use Rattle.rules.specs.Call.{Event, start, country, address, begin, init, eap, reply, final, error, congestion, give-up, child-made, child-deleted, ike-delete, factsOf}
+use Rattle.rules.specs.Phases.{factsIn, isIn, owed, turnIn}
+
+-- a line's ended holds are dropped at each accepted timed call on it, and its time is stored
+unfoldable pub current : ℕ → Line → Line
+current time x = record {
+  time = time;
+  phase = x .phase;
+  holds = only (endsAfter time) (x .holds);
+  children = x .children;
+}
+
+-- the line afterwards, the action, the octets of the returned part and those written to the answer buffer
+pub record Outcome : Type 0 where
+  pub line : Line
+  pub action : Action
+  pub part : List ℕ
+  pub written : List ℕ
+
+-- another phase of the same line
+unfoldable pub inPhase : Line → Phase → Line
+inPhase x p = record { time = x .time; phase = p; holds = x .holds; children = x .children }
+
+-- a phase and an action, with nothing returned or written
+unfoldable pub goes : Line → Phase → Action → Outcome
+goes x p action = record { line = inPhase x p; action = action; part = []; written = [] }
+
+-- the chosen address goes on into another phase
+unfoldable pub onward : (Address → Phase) → Option Address → Phase
+onward f none = Idle
+onward f (some a) = f a
+
+unfoldable pub keeps : Line → (Address → Phase) → Action → Outcome
+keeps x f action = goes x (onward f (chosen (x .phase))) action
+
+-- S5: the address is chosen, or selection stops; either says how many addresses were passed over
+unfoldable pub found : Line → Found → Outcome
+found x (Found.Chosen a k) = goes x (Chosen a) (chose a k)
+found x (Found.Nothing k) = goes x Idle (stopped 4 k)
+
+-- the addresses on hold
+unfoldable pub held : Line → List Address
+held x = map addressIn (x .holds)
+
+-- a name is asked: its octets are the part, and those that are built are written
+unfoldable pub asking : Line → Phase → Action → List ℕ → Choice → Outcome
+asking x p action text c = record { line = inPhase x p; action = action; part = asked text c; written = built c }
+
+-- S1 to S4: selection stops, a name is asked, or a `node` address is treated as an answer list of one
+unfoldable pub decided : Line → Facts → List ℕ → Choice → Outcome
+decided x f text (Choice.Stop n) = goes x Idle (stopped n 0)
+decided x f text (Choice.Country mcc) =
+    let c = Choice.Country mcc in
+    asking x (Country f) (ask-country (length (built c))) text c
+decided x f text (Choice.Text at n) = asking x (Name f) (ask-text at n) text (Choice.Text at n)
+decided x f text (Choice.Network p) =
+    let c = Choice.Network p in
+    asking x (Name f) (ask-built (length (built c))) text c
+decided x f text (Choice.Address a) = found x (choose (f .version) (held x) (a ∷ []))
+
+-- start, and the country answer with the place facts of the line, by the lent text
+unfoldable pub started : Line → Facts → List ℕ → Option Settings → Outcome
+started x f text none = goes x Idle nothing
+started x f text (some s) = decided x f text (Selection.start s f)
+
+unfoldable pub answered : Line → Option Facts → Option (List Plmn) → List ℕ → Option Settings → Outcome
+answered x none ps text s = goes x Idle nothing
+answered x (some f) ps text none = goes x Idle nothing
+answered x (some f) ps text (some s) = decided x f text (Selection.country s f ps)
+
+-- the address answer, for the local IP version of the line's place facts
+unfoldable pub addressed : Line → Option Facts → List Address → Outcome
+addressed x none list = goes x Idle nothing
+addressed x (some f) list = found x (choose (f .version) (held x) list)
+
+-- EAP Start: identifier owed, ask for NAS; EAP NAS: identifier owed, hand NAS up; EAP Success: send AUTH
+unfoldable pub packetTaken : Line → List ℕ → Packet → Outcome
+packetTaken x packet (Start i) = keeps x (λ a. Eap a (First i)) ask-nas
+packetTaken x packet (NasRequest i at n) = record {
+  line = inPhase x (onward (λ a. Eap a (Owed i)) (chosen (x .phase)));
+  action = hand-up at n;
+  part = nasOf packet (NasRequest i at n);
+  written = [];
+}
+packetTaken x packet (Success i) = keeps x Sure send-auth
+packetTaken x packet (NasResponse i p m at n) = goes x Idle nothing
+packetTaken x packet (Stop i) = goes x Idle nothing
+packetTaken x packet Other = goes x Idle nothing
+
+-- reply: none owed, a response with the identifier that was
+unfoldable pub replied : Line → List ℕ → List ℕ → Option ℕ → Outcome
+replied x parameters nas none = goes x Idle nothing
+replied x parameters nas (some i) =
+    let r = response i parameters nas in
+    record {
+      line = inPhase x (onward (λ a. Eap a (Answered i)) (chosen (x .phase)));
+      action = send-response (length r);
+      part = [];
+      written = r;
+    }
+
+-- final answer, AUTH good or bad
+unfoldable pub finished : Line → Bool → Outcome
+finished x true = keeps x Live live
+finished x false = goes x Idle (released 0)
+
+-- EAP ended if eap
+unfoldable pub ended : Phase → ℕ
+ended p = cond (isIn "eap" p) 1 0
+
+-- hold by timer: until time plus count times unit, without end, or none
+unfoldable pub holdBy : ℕ → Timer → Address → List Hold
+holdBy time Timer.None a = []
+holdBy time (Timer.Seconds n) a = record { address = a; end = At (time + n) } ∷ []
+holdBy time Timer.Deactivated a = record { address = a; end = Never } ∷ []
+
+unfoldable pub heldBy : ℕ → Timer → Option Address → List Hold
+heldBy time t none = []
+heldBy time t (some a) = holdBy time t a
+
+-- congestion: idle, the chosen address held
+unfoldable pub congested : Line → Timer → Line
+congested x t = record {
+  time = x .time;
+  phase = Idle;
+  holds = x .holds ++ heldBy (x .time) t (chosen (x .phase));
+  children = x .children;
+}
+
+-- the same line with other children
+unfoldable pub withChildren : Line → List Child → Line
+withChildren x cs = record { time = x .time; phase = x .phase; holds = x .holds; children = cs }
+
+unfoldable pub isOther : ℕ → Child → Bool
+isOther spi c = not (eqb spi (c .spi))
+
+-- a line and an action, with nothing returned or written
+unfoldable pub becomes : Line → Action → Outcome
+becomes x action = record { line = x; action = action; part = []; written = [] }
+
+-- one clause for each row of the table; the line is the one that the call finds, its time stored and without its ended holds
+unfoldable pub outcome : Event → Line → Outcome
+outcome (start g text room) x = started x (factsOf g) text (configOf text)
+outcome (country n networks text room) x =
+    answered x (factsIn (x .phase)) (Selection.answered (eqb n 1) (networksIn networks)) text (configOf text)
+outcome (address addresses) x = addressed x (factsIn (x .phase)) (addressesIn addresses)
+outcome begin x = keeps x Init send-init
+outcome init x = keeps x Auth send-auth-request
+outcome (eap packet) x = packetTaken x packet (readPacket packet)
+outcome (reply parameters nas room) x = replied x parameters nas (owed (turnIn (x .phase)))
+outcome (final good) x = finished x (eqb good 1)
+outcome (error number) x = goes x Idle (error-up (ended (x .phase)) number)
+outcome (congestion authenticated timer) x = becomes (congested x (timerOf timer)) (released (ended (x .phase)))
+outcome give-up x = goes x Idle nothing
+outcome (child-made spi session) x = becomes (withChildren x (x .children ++ record { spi = spi; session = session } ∷ [])) nothing
+outcome (child-deleted spi) x = becomes (withChildren x (only (isOther spi) (x .children))) nothing
+outcome ike-delete x = becomes (withChildren (inPhase x Idle) []) (released 0)

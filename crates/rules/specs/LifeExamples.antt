@@ -1,0 +1,149 @@
+-- Histories of 'Life of a line' and 'Listing of one tenant', each under the sentence that it shows.
+use Prim.Native.String.{String}
+use mathlib.Core.List.{List, [], _∷_, _++_, map}
+use mathlib.Core.Path.{_≡_, refl}
+use Rattle.address.specs.Address.{versionOf}
+use Rattle.address.specs.declared.Address.the-variants.{V4, V6}
+use Rattle.eap.specs.Examples.{laterReply}
+use Rattle.rules.specs.Answer.{Action, nothing, stopped, ask-country, ask-text, ask-built, chose, send-init, send-auth-request, ask-nas, hand-up, send-response, send-auth, live, released, error-up, listed, high, low, numbersOf, twelve}
+use Rattle.rules.specs.Call.{Event, start, begin, init, eap, reply, final, error, congestion, give-up, child-made, child-deleted, ike-delete, Call, opening, closing, listing}
+use Rattle.rules.specs.Cases.{acts, atHome, atHome6, declined, done, firstReply, lists, nas, nasPacket, node, node6, now, own, parameters, shown, startPacket, success, toAnswered, toAuth, toChosen, toCountry, toFirst, toIdle, toInit, toLive, toName, toOwed, toSure, writes}
+use Rattle.rules.specs.Computed.{Example, found, said}
+
+-- a line stands as the listing shows it
+unfoldable pub standing : List Call → String → Example
+unfolding lists shown
+standing before shows = record { before = before; calls = listing 0 1024 ∷ []; says = lists (shown shows) ∷ [] }
+
+-- an event is accepted with an action and leaves the line idle
+unfoldable pub ending : List Call → Event → Action → Example
+unfolding acts lists now shown
+ending before e action = record {
+  before = before;
+  calls = now e ∷ listing 0 1024 ∷ [];
+  says = acts action ∷ lists (shown "line|0|idle|-|0") ∷ [];
+}
+
+-- a live line with one child, and one with two
+unfoldable pub toChild : List Call
+unfolding toLive
+toChild = toLive ++ now (child-made 0xc0de 5) ∷ []
+
+unfoldable pub toChildren : List Call
+unfolding toChild
+toChildren = toChild ++ now (child-made 0x100 15) ∷ []
+
+unfoldable pub lives : List Example
+unfolding acts atHome atHome6 declined done ending firstReply laterReply lists nas nasPacket node node6 now own parameters shown standing
+    startPacket success toAnswered toAuth toChild toChildren toChosen toCountry toFirst toIdle toInit toLive toName toOwed toSure writes
+lives =
+    -- from start to live with two children: each event is accepted in its phase, with its action
+    record {
+      before = [];
+      calls =
+          opening 0 0 ∷ now (start atHome node 64) ∷ now begin ∷ now init ∷ now (eap (startPacket 7)) ∷ now (reply parameters nas 3090)
+          ∷ now (eap (nasPacket 7)) ∷ now (reply [] nas 3090) ∷ now (eap (success 7)) ∷ now (final 1) ∷ now (child-made 0xc0de 5)
+          ∷ now (child-made 0x100 15) ∷ [];
+      says =
+          done ∷ writes 64 (chose (V4 0xc0000207) 0) [] [] ∷ acts send-init ∷ acts send-auth-request ∷ acts ask-nas
+          ∷ writes 3090 (send-response 22) [] firstReply ∷ writes 0 (hand-up 16 2) (0x7E ∷ 0x01 ∷ []) []
+          ∷ writes 3090 (send-response 19) [] laterReply ∷ acts send-auth ∷ acts live ∷ acts nothing ∷ acts nothing ∷ [];
+    }
+    -- the listing of document 01: open lines by rising number, whatever the order in which they were opened
+    ∷ record {
+      before = opening 0 2 ∷ toChild;
+      calls = listing 0 1024 ∷ [];
+      says = lists (shown "line|0|live|c0000207|1" ++ shown "child|0|0000c0de|5" ++ shown "line|2|idle|-|0") ∷ [];
+    }
+    -- children in the order made; the deleted one is gone and the other stays
+    ∷ record {
+      before = toChildren;
+      calls = listing 0 1024 ∷ now (child-deleted 0xc0de) ∷ listing 0 1024 ∷ [];
+      says =
+          lists (shown "line|0|live|c0000207|2" ++ shown "child|0|0000c0de|5" ++ shown "child|0|00000100|15") ∷ acts nothing
+          ∷ lists (shown "line|0|live|c0000207|1" ++ shown "child|0|00000100|15") ∷ [];
+    }
+    -- no open line: no octets, accepted; another tenant's lines are not listed
+    ∷ record { before = toChild; calls = listing 1 1024 ∷ []; says = lists [] ∷ [] }
+    -- an address of version 6 has 32 digits
+    ∷ standing (toIdle ++ now (start atHome6 node6 64) ∷ []) "line|0|chosen|20010db8000000000000000000000001|0"
+    -- the phase after each event, with the chosen address from the choice on
+    ∷ standing toIdle "line|0|idle|-|0"
+    ∷ standing toCountry "line|0|country|-|0"
+    ∷ standing toName "line|0|name|-|0"
+    ∷ standing toChosen "line|0|chosen|c0000207|0"
+    ∷ standing toInit "line|0|init|c0000207|0"
+    ∷ standing toAuth "line|0|auth|c0000207|0"
+    ∷ standing toFirst "line|0|eap|c0000207|0"
+    ∷ standing toAnswered "line|0|eap|c0000207|0"
+    ∷ standing toOwed "line|0|eap|c0000207|0"
+    ∷ standing toSure "line|0|sure|c0000207|0"
+    ∷ standing toLive "line|0|live|c0000207|0"
+    -- final answer, AUTH bad: idle, released
+    ∷ ending toSure (final 0) (released 0)
+    -- error notify 1 to 16,383: idle, error up, EAP ended if eap
+    ∷ ending toAuth (error 1) (error-up 0 1)
+    ∷ ending toFirst (error 24) (error-up 1 24)
+    ∷ ending toSure (error 16383) (error-up 0 16383)
+    -- congestion: idle, released, EAP ended if eap
+    ∷ ending toAuth (congestion 1 0x61) (released 0)
+    ∷ ending toAnswered (congestion 1 0x61) (released 1)
+    ∷ ending toSure (congestion 1 0x61) (released 0)
+    -- give up: idle, with no action
+    ∷ ending toCountry give-up nothing
+    ∷ ending toName give-up nothing
+    ∷ ending toChosen give-up nothing
+    ∷ ending toInit give-up nothing
+    ∷ ending toAuth give-up nothing
+    ∷ ending toFirst give-up nothing
+    ∷ ending toSure give-up nothing
+    -- IKE delete: idle, no child, released
+    ∷ ending toChildren ike-delete (released 0)
+    -- EAP NAS has the identifier of its response, and Success has to have that of the last reply
+    ∷ record {
+      before = toAnswered;
+      calls = now (eap (nasPacket 9)) ∷ now (eap (success 9)) ∷ now (reply [] nas 3090) ∷ now (eap (success 7)) ∷ now (eap (success 9)) ∷ [];
+      says =
+          writes 0 (hand-up 16 2) (0x7E ∷ 0x01 ∷ []) [] ∷ declined 10
+          ∷ writes 3090 (send-response 19) []
+          (0x02 ∷ 0x09 ∷ 0x00 ∷ 0x13 ∷ 0xFE ∷ 0x00 ∷ 0x28 ∷ 0xAF ∷ 0x00 ∷ 0x00 ∷ 0x00 ∷ 0x03 ∷ 0x02 ∷ 0x00 ∷ 0x00 ∷ 0x00 ∷ 0x00 ∷ 0x01 ∷ 0x7E ∷ [])
+          ∷ declined 10 ∷ acts send-auth ∷ [];
+    }
+    -- closing fills the record with zeros: opened again and live again, the line has no child
+    ∷ standing (toChildren ++ closing 0 0 ∷ toLive) "line|0|live|c0000207|0"
+    -- open sets the time to 0
+    ∷ record {
+      before = toChildren;
+      calls = own 99 ike-delete ∷ closing 0 0 ∷ opening 0 0 ∷ own 0 (start atHome node 64) ∷ [];
+      says = declined 7 ∷ done ∷ done ∷ writes 64 (chose (V4 0xc0000207) 0) [] [] ∷ [];
+    }
+    ∷ []
+
+pub lives-computed : map found lives ≡ map said lives
+unfolding lives found said
+lives-computed = refl
+
+-- the twelve numbers of each action, in the order of the numbers that name actions
+pub numbers-computed : map numbersOf
+    (nothing ∷ stopped 4 2 ∷ ask-country 52 ∷ ask-text 22 13 ∷ ask-built 43 ∷ chose (V4 5) 2 ∷ chose (V6 8 9) 1 ∷ send-init ∷ send-auth-request
+    ∷ ask-nas ∷ hand-up 16 3 ∷ send-response 19 ∷ send-auth ∷ live ∷ released 1 ∷ error-up 1 24 ∷ listed 42 ∷ [])
+    ≡ twelve 0 0 0 0 0 0 0 0 0 0 0 0
+    ∷ twelve 1 4 2 0 0 0 0 0 0 0 0 0
+    ∷ twelve 2 0 0 2 0 52 0 0 0 0 0 52
+    ∷ twelve 3 0 0 1 22 13 0 0 0 0 0 0
+    ∷ twelve 3 0 0 2 0 43 0 0 0 0 0 43
+    ∷ twelve 4 0 2 0 0 0 4 0 5 0 0 0
+    ∷ twelve 4 0 1 0 0 0 6 8 9 0 0 0
+    ∷ twelve 5 0 0 0 0 0 0 0 0 0 0 0
+    ∷ twelve 6 0 0 0 0 0 0 0 0 0 0 0
+    ∷ twelve 7 0 0 0 0 0 0 0 0 0 0 0
+    ∷ twelve 8 0 0 3 16 3 0 0 0 0 0 0
+    ∷ twelve 9 0 0 0 0 0 0 0 0 0 0 19
+    ∷ twelve 10 0 0 0 0 0 0 0 0 0 0 0
+    ∷ twelve 11 0 0 0 0 0 0 0 0 0 0 0
+    ∷ twelve 12 0 0 0 0 0 0 0 0 1 0 0
+    ∷ twelve 13 0 0 0 0 0 0 0 0 1 24 0
+    ∷ twelve 0 0 0 0 0 0 0 0 0 0 0 42
+    ∷ []
+unfolding numbersOf twelve high low versionOf
+numbers-computed = refl

@@ -1,0 +1,42 @@
+-- The listing of one tenant: open lines by rising number, each with its children in the order made (document 01, 'Listing of one tenant').
+use Prim.Native.Nat.{ℕ, suc}
+use mathlib.Core.List.{List, [], _∷_, _++_}
+use mathlib.Core.Option.{Option, none, some}
+use lib.ListN.{length}
+use Rattle.octets.specs.Row.{joined}
+use Rattle.address.specs.declared.Address.{Address}
+use Rattle.address.specs.declared.Address.the-variants.{V4, V6}
+use Rattle.children.specs.declared.Child.{Child}
+use Rattle.record.specs.Line.{Line}
+use Rattle.record.specs.Sound.{chosen}
+use Rattle.text.specs.Text.{text, decimal, digitText}
+use Rattle.rules.specs.Phases.{word}
+
+-- a tab between fields, a newline after a record
+unfoldable pub tab : List ℕ
+tab = 9 ∷ []
+
+unfoldable pub newline : List ℕ
+newline = 10 ∷ []
+
+-- the chosen address in hex, 8 or 32 lower-case digits, or a hyphen
+unfoldable pub addressText : Option Address → List ℕ
+addressText none = text "-"
+addressText (some (V4 x)) = digitText 16 8 x
+addressText (some (V6 h l)) = digitText 16 16 h ++ digitText 16 16 l
+
+-- a child record has its line, the SPI as 8 hex digits, the session in decimal
+unfoldable pub childText : ℕ → Child → List ℕ
+childText n c = text "child" ++ tab ++ decimal n ++ tab ++ digitText 16 8 (c .spi) ++ tab ++ decimal (c .session) ++ newline
+
+-- a line has its number, the phase word, the chosen address, the count of children
+unfoldable pub lineText : ℕ → Line → List ℕ
+lineText n x =
+    text "line" ++ tab ++ decimal n ++ tab ++ text (word (x .phase)) ++ tab ++ addressText (chosen (x .phase)) ++ tab
+    ++ decimal (length (x .children)) ++ newline ++ joined (childText n) (x .children)
+
+-- the lines from one number on, those that are open
+unfoldable pub listFrom : ℕ → List (Option Line) → List ℕ
+listFrom n [] = []
+listFrom n (none ∷ xs) = listFrom (suc n) xs
+listFrom n (some x ∷ xs) = lineText n x ++ listFrom (suc n) xs

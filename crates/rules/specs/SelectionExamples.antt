@@ -1,0 +1,119 @@
+-- Histories of 'Choosing a gateway', S1 to S5, with the part and the name buffer whole, each under the sentence that it shows.
+use Prim.Native.Nat.{ℕ}
+use Prim.Native.String.{String}
+use mathlib.Core.List.{List, [], _∷_, _++_, map}
+use mathlib.Core.Path.{_≡_, refl}
+use Rattle.address.specs.declared.Address.{Address}
+use Rattle.address.specs.declared.Address.the-variants.{V4, V6}
+use Rattle.addresses.specs.Addresses.{addressOctets}
+use Rattle.octets.specs.Row.{joined}
+use Rattle.text.specs.Text.{text}
+use Rattle.rules.specs.Answer.{Action, Answer, stopped, ask-country, ask-text, ask-built, chose}
+use Rattle.rules.specs.Call.{Given, start, country, address, Call}
+use Rattle.rules.specs.Cases.{abroad, acts, atHome, atHome6, congest, given, named, network, node, now, plain, registeredTo, roaming, shown, toIdle, toName, writes}
+use Rattle.rules.specs.Computed.{Example, found, said}
+
+-- a stop and a choice leave the name buffer all zeros and the part empty; a built name is both the part and what is written
+unfoldable pub gives : Action → Answer
+unfolding writes
+gives action = writes 64 action [] []
+
+unfoldable pub asks : String → Answer
+unfolding writes
+asks name = writes 64 (ask-built 43) (text name) (text name)
+
+unfoldable pub asksCountry : String → Answer
+unfolding writes
+asksCountry name = writes 64 (ask-country 52) (text name) (text name)
+
+-- what start answers
+unfoldable pub starting : Given → List ℕ → Answer → Example
+unfolding now toIdle
+starting g text answer = record { before = toIdle; calls = now (start g text 64) ∷ []; says = answer ∷ [] }
+
+-- what the country answer answers, with the text that start had
+unfoldable pub answering : Given → List ℕ → ℕ → List ℕ → Answer → Example
+unfolding now toIdle
+answering g text replied networks answer = record {
+  before = toIdle ++ now (start g text 64) ∷ [];
+  calls = now (country replied networks text 64) ∷ [];
+  says = answer ∷ [];
+}
+
+-- what the address answer answers after some calls
+unfoldable pub choosing : List Call → List Address → Action → Example
+unfolding acts now
+choosing before list action = record { before = before; calls = now (address (joined addressOctets list)) ∷ []; says = acts action ∷ [] }
+
+unfoldable pub selections : List Example
+unfolding abroad answering asks asksCountry atHome atHome6 congest given gives choosing named network node now plain registeredTo roaming shown
+    starting toIdle toName writes
+selections =
+    -- S1, place unknown: stop 1
+    starting (given 0 0 0 0 0 4) node (gives (stopped 1 0))
+    -- S2, home: a `node` address is treated as an answer list of one
+    ∷ starting atHome node (gives (chose (V4 0xc0000207) 0))
+    ∷ starting atHome6 node (gives (stopped 4 1))
+    -- a `node` name is asked, as the part of the text that holds it, and the name buffer is all zeros
+    ∷ starting atHome named (writes 64 (ask-text 22 13) (text "n3iwf.example") [])
+    -- without `node`, the operator name of the home PLMN is asked, even with a `bar` record
+    ∷ starting atHome plain (asks "n3iwf.5gc.mnc001.mcc262.pub.3gppnetwork.org")
+    ∷ starting atHome (plain ++ shown "bar|262|001") (asks "n3iwf.5gc.mnc001.mcc262.pub.3gppnetwork.org")
+    -- the octets past the written part are zeros, in a longer buffer too
+    ∷ record {
+      before = toIdle;
+      calls = now (start atHome plain 100) ∷ [];
+      says =
+          writes 100 (ask-built 43) (text "n3iwf.5gc.mnc001.mcc262.pub.3gppnetwork.org") (text "n3iwf.5gc.mnc001.mcc262.pub.3gppnetwork.org")
+          ∷ [];
+    }
+    -- S3, registered PLMN not barred and with a `plmn` record: its operator name; PLMNs are compared as numbers
+    ∷ starting (registeredTo 901 2) roaming (asks "n3iwf.5gc.mnc002.mcc901.pub.3gppnetwork.org")
+    ∷ starting (registeredTo 901 3) roaming (asks "n3iwf.5gc.mnc003.mcc901.pub.3gppnetwork.org")
+    ∷ starting (registeredTo 902 1) roaming (asks "n3iwf.5gc.mnc001.mcc902.pub.3gppnetwork.org")
+    -- S4 otherwise: not registered, barred, without a record, or registered to the home PLMN, which counts as none
+    ∷ starting (abroad 901) roaming (asksCountry "n3iwf.5gc.mcc901.visited-country.pub.3gppnetwork.org")
+    ∷ starting (registeredTo 901 4) roaming (asksCountry "n3iwf.5gc.mcc901.visited-country.pub.3gppnetwork.org")
+    ∷ starting (registeredTo 901 9) roaming (asksCountry "n3iwf.5gc.mcc901.visited-country.pub.3gppnetwork.org")
+    ∷ starting (registeredTo 262 1) (plain ++ shown "plmn|262|01|0") (asksCountry "n3iwf.5gc.mcc901.visited-country.pub.3gppnetwork.org")
+    -- no reply: stop 2, and not "no PLMN"
+    ∷ answering (abroad 901) roaming 0 [] (gives (stopped 2 0))
+    -- none: the best of the `plmn` records with the visited MCC and not barred, the earlier record on a tie
+    ∷ answering (abroad 901) roaming 1 [] (asks "n3iwf.5gc.mnc002.mcc901.pub.3gppnetwork.org")
+    -- none, and no such record: as S2
+    ∷ answering (abroad 903) roaming 1 [] (asks "n3iwf.5gc.mnc001.mcc262.pub.3gppnetwork.org")
+    ∷ answering (abroad 901) named 1 [] (writes 64 (ask-text 22 13) (text "n3iwf.example") [])
+    ∷ answering (abroad 901) node 1 [] (gives (chose (V4 0xc0000207) 0))
+    -- one or more: the registered PLMN if listed and not barred
+    ∷ answering (registeredTo 901 9) roaming 1 (network 901 2 ++ network 901 9) (asks "n3iwf.5gc.mnc009.mcc901.pub.3gppnetwork.org")
+    ∷ answering (registeredTo 901 4) roaming 1 (network 901 4 ++ network 901 1) (asks "n3iwf.5gc.mnc001.mcc901.pub.3gppnetwork.org")
+    ∷ answering (registeredTo 901 9) roaming 1 (network 901 1 ++ network 901 8) (asks "n3iwf.5gc.mnc001.mcc901.pub.3gppnetwork.org")
+    -- whether the registered PLMN counts as none is decided by each call's own text
+    ∷ record {
+      before = toIdle ++ now (start (registeredTo 262 1) plain 64) ∷ [];
+      calls = now (country 1 (network 262 2 ++ network 262 1) (shown "home|263|01") 64) ∷ [];
+      says = asks "n3iwf.5gc.mnc001.mcc262.pub.3gppnetwork.org" ∷ [];
+    }
+    -- else the listed, unbarred PLMN of best priority, on a tie the earlier record and not the earlier in the list
+    ∷ answering (abroad 901) roaming 1 (network 901 8 ++ network 901 1 ++ network 901 3) (asks "n3iwf.5gc.mnc003.mcc901.pub.3gppnetwork.org")
+    ∷ answering (abroad 901) roaming 1 (network 901 3 ++ network 901 2) (asks "n3iwf.5gc.mnc002.mcc901.pub.3gppnetwork.org")
+    -- else the first listed unbarred one, else stop 3
+    ∷ answering (abroad 901) roaming 1 (network 901 4 ++ network 901 8 ++ network 901 7) (asks "n3iwf.5gc.mnc008.mcc901.pub.3gppnetwork.org")
+    ∷ answering (abroad 901) roaming 1 (network 901 4) (gives (stopped 3 0))
+    -- a barred home PLMN that the country answer lists is barred
+    ∷ answering (abroad 901) (plain ++ shown "bar|262|01") 1 (network 262 1) (gives (stopped 3 0))
+    -- S5: the first with the local IP version is chosen, and the answer says how many were passed over
+    ∷ choosing toName (V4 0xc0000207 ∷ V4 0xc0000208 ∷ []) (chose (V4 0xc0000207) 0)
+    ∷ choosing toName (V6 1 2 ∷ V6 1 3 ∷ V4 0xc0000207 ∷ []) (chose (V4 0xc0000207) 2)
+    ∷ choosing (toIdle ++ now (start atHome6 named 64) ∷ []) (V4 0xc0000207 ∷ V6 1 3 ∷ []) (chose (V6 1 3) 1)
+    -- if there is none, stop 4 with all of them passed over
+    ∷ choosing toName [] (stopped 4 0)
+    ∷ choosing toName (V6 1 2 ∷ V6 1 3 ∷ []) (stopped 4 2)
+    -- one on hold is passed over
+    ∷ choosing (toIdle ++ congest 100 0xc0000207 0xE0 ++ now (start atHome named 64) ∷ []) (V4 0xc0000207 ∷ V4 0xc0000208 ∷ [])
+    (chose (V4 0xc0000208) 1)
+    ∷ []
+
+pub selections-computed : map found selections ≡ map said selections
+unfolding selections found said
+selections-computed = refl

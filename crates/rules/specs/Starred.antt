@@ -1,0 +1,146 @@
+-- Document 01's starred examples, as one statement over one list.
+use Prim.Native.Nat.{ℕ}
+use mathlib.Core.List.{List, [], _∷_, _++_, map}
+use mathlib.Core.Path.{_≡_, refl}
+use Rattle.octets.specs.Part.{padded, zeros}
+use Rattle.octets.specs.Row.{joined}
+use Rattle.address.specs.Address.{versionOf}
+use Rattle.address.specs.declared.Address.{Address}
+use Rattle.address.specs.declared.Address.the-variants.{V4, V6}
+use Rattle.addresses.specs.Addresses.{addressOctets}
+use Rattle.eap.specs.Packet.{readPacket}
+use Rattle.eap.specs.declared.Packet.{Packet}
+use Rattle.eap.specs.declared.Packet.the-variants.{Start, NasRequest, Success, NasResponse, Stop, Other}
+use Rattle.gateway.specs.Gateway.{choose}
+use Rattle.gateway.specs.declared.Found.{Found}
+use Rattle.gateway.specs.declared.Found.the-variants.{Chosen, Nothing}
+use Rattle.lists.specs.Lists.{addressesIn}
+use Rattle.network.specs.Name.{operatorName, visitedName}
+use Rattle.response.specs.Response.{response}
+use Rattle.text.specs.Text.{text}
+use Rattle.timer.specs.Timer.{timerOf}
+use Rattle.timer.specs.declared.Timer.{Timer}
+use Rattle.timer.specs.declared.Timer.the-variants.{None, Seconds, Deactivated}
+use Rattle.rules.specs.Answer.{Answer, high, low, twelve}
+use Rattle.rules.specs.Call.{start, address, eap, Call, listing}
+use Rattle.rules.specs.Cases.{atHome, congest, named, node, now, own, shown, toAnswered, toFirst, toIdle, toName}
+use Rattle.rules.specs.Computed.{answersAfter, counted, evaluated}
+
+-- what the definitions give, and what document 01 says
+pub record Example : Type 0 where
+  pub gives : List ℕ
+  pub says : List ℕ
+
+-- a timer: 0 none, 1 and its seconds, 2 deactivated
+unfoldable pub timerNumbers : Timer → List ℕ
+timerNumbers None = 0 ∷ []
+timerNumbers (Seconds n) = 1 ∷ n ∷ []
+timerNumbers Deactivated = 2 ∷ []
+
+-- the address that is chosen, or 0, and how many were passed over
+unfoldable pub foundNumbers : Found → List ℕ
+foundNumbers (Chosen a k) = versionOf a ∷ high a ∷ low a ∷ k ∷ []
+foundNumbers (Nothing k) = 0 ∷ k ∷ []
+
+-- a packet: 1 Start, 2 NAS request, 3 Success, with its identifier; 0 any other
+unfoldable pub packetNumbers : Packet → List ℕ
+packetNumbers (Start i) = 1 ∷ i ∷ []
+packetNumbers (NasRequest i at n) = 2 ∷ i ∷ []
+packetNumbers (Success i) = 3 ∷ i ∷ []
+packetNumbers (NasResponse i p m at n) = 0 ∷ []
+packetNumbers (Stop i) = 0 ∷ []
+packetNumbers Other = 0 ∷ []
+
+-- the refusal number and the twelve numbers
+unfoldable pub gist : Answer → List ℕ
+gist a = a .refusal ∷ a .numbers
+
+unfoldable pub gists : List Call → List Call → List ℕ
+unfolding answersAfter gist
+gists before calls = joined gist (answersAfter before calls)
+
+-- the answer buffers
+unfoldable pub bufferOf : Answer → List ℕ
+bufferOf a = a .buffer
+
+unfoldable pub buffers : List Call → List Call → List ℕ
+unfolding answersAfter bufferOf
+buffers before calls = joined bufferOf (answersAfter before calls)
+
+-- 2001:db8::1, 192.0.2.1 and 192.0.2.7
+unfoldable pub three : List Address
+three = V6 0x20010db800000000 1 ∷ V4 0xc0000201 ∷ V4 0xc0000207 ∷ []
+
+unfoldable pub starred : List Example
+unfolding atHome buffers congest counted foundNumbers gists named node now own packetNumbers shown three timerNumbers toAnswered toFirst
+    toIdle toName twelve
+starred =
+    -- timer 61 hex: 2 s
+    record { gives = timerNumbers (timerOf 0x61); says = 1 ∷ 2 ∷ [] }
+    -- 00: none
+    ∷ record { gives = timerNumbers (timerOf 0x00); says = 0 ∷ [] }
+    -- E0: deactivated
+    ∷ record { gives = timerNumbers (timerOf 0xE0); says = 2 ∷ [] }
+    -- DF: 35,712,000 s
+    ∷ record { gives = timerNumbers (timerOf 0xDF); says = 1 ∷ 35_712_000 ∷ [] }
+    -- congestion 61 at time 100: held at 101, so that a `node` address stops with 4, 1 passed over; free at 102
+    ∷ record {
+      gives = gists (toIdle ++ congest 100 0xc0000207 0x61) (own 101 (start atHome node 64) ∷ own 102 (start atHome node 64) ∷ []);
+      says = (0 ∷ twelve 1 4 1 0 0 0 0 0 0 0 0 0) ++ 0 ∷ twelve 4 0 0 0 0 0 4 0 0xc0000207 0 0 0;
+    }
+    -- 999/70
+    ∷ record {
+      gives = counted (operatorName (record { mcc = 999; mnc = 70 }));
+      says = 43 ∷ text "n3iwf.5gc.mnc070.mcc999.pub.3gppnetwork.org";
+    }
+    -- abroad 999
+    ∷ record { gives = counted (visitedName 999); says = 52 ∷ text "n3iwf.5gc.mcc999.visited-country.pub.3gppnetwork.org" }
+    -- addresses v6, held v4, 192.0.2.7 with local v4: the third, 2 passed over
+    ∷ record {
+      gives = foundNumbers (choose 4 (V4 0xc0000201 ∷ []) (addressesIn (joined addressOctets three)));
+      says = 4 ∷ 0 ∷ 0xc0000207 ∷ 2 ∷ [];
+    }
+    ∷ record {
+      gives =
+          gists (toIdle ++ congest 100 0xc0000201 0xE0 ++ now (start atHome named 64) ∷ []) (now (address (joined addressOctets three)) ∷ []);
+      says = 0 ∷ twelve 4 0 2 0 0 0 4 0 0xc0000207 0 0 0;
+    }
+    -- empty: stop 4, 0
+    ∷ record { gives = foundNumbers (choose 4 (V4 0xc0000201 ∷ []) (addressesIn [])); says = 0 ∷ 0 ∷ [] }
+    ∷ record { gives = gists toName (now (address []) ∷ []); says = 0 ∷ twelve 1 4 0 0 0 0 0 0 0 0 0 0 }
+    -- Start, identifier 7
+    ∷ record {
+      gives =
+          packetNumbers (readPacket (0x01 ∷ 0x07 ∷ 0x00 ∷ 0x0E ∷ 0xFE ∷ 0x00 ∷ 0x28 ∷ 0xAF ∷ 0x00 ∷ 0x00 ∷ 0x00 ∷ 0x03 ∷ 0x01 ∷ 0x00 ∷ []));
+      says = 1 ∷ 7 ∷ [];
+    }
+    -- later reply 7, no AN, NAS 7E
+    ∷ record {
+      gives = response 7 [] (0x7E ∷ []);
+      says =
+          0x02 ∷ 0x07 ∷ 0x00 ∷ 0x13 ∷ 0xFE ∷ 0x00 ∷ 0x28 ∷ 0xAF ∷ 0x00 ∷ 0x00 ∷ 0x00 ∷ 0x03 ∷ 0x02 ∷ 0x00 ∷ 0x00 ∷ 0x00 ∷ 0x00 ∷ 0x01 ∷ 0x7E
+          ∷ [];
+    }
+    -- Success `03 07 00 04` while 7 is owed: 10
+    ∷ record { gives = gists toFirst (now (eap (0x03 ∷ 0x07 ∷ 0x00 ∷ 0x04 ∷ [])) ∷ []); says = 10 ∷ zeros 12 }
+    -- after the reply: sure
+    ∷ record {
+      gives = gists toAnswered (now (eap (0x03 ∷ 0x07 ∷ 0x00 ∷ 0x04 ∷ [])) ∷ []);
+      says = 0 ∷ twelve 10 0 0 0 0 0 0 0 0 0 0 0;
+    }
+    ∷ record {
+      gives = buffers (toAnswered ++ now (eap (0x03 ∷ 0x07 ∷ 0x00 ∷ 0x04 ∷ [])) ∷ []) (listing 0 1024 ∷ []);
+      says = padded 1024 (shown "line|0|sure|c0000207|0");
+    }
+    ∷ []
+
+unfoldable pub found : Example → List ℕ
+unfolding evaluated
+found e = evaluated (e .gives)
+
+unfoldable pub said : Example → List ℕ
+said e = e .says
+
+pub computed : map found starred ≡ map said starred
+unfolding starred found said
+computed = refl
