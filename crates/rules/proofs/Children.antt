@@ -2,7 +2,7 @@
 use Prim.Native.Nat.{ℕ, _^_}
 use mathlib.Core.Bool.{true, false}
 use mathlib.Core.List.{List, [], _∷_, _++_}
-use mathlib.Core.Path.{_≡_, refl}
+use mathlib.Core.Path.{_≡_, refl, sym, _∙_}
 use native.Mathlib.Omega.{arith}
 use lib.Dec.{leb, ltb}
 use lib.ListN.{length, length-append}
@@ -23,7 +23,7 @@ use Rattle.record.specs.Sound.{chosen, isFree, isIdle, isLive}
 use Rattle.rules.specs.Life.{inPhase, isOther, withChildren}
 use Rattle.rules.specs.Phases.{isIn}
 use Rattle.rules.specs.Refusals.{badChild}
-use Rattle.rules.proofs.Phases.{is-live}
+use Rattle.rules.proofs.Phases.{live-is}
 use Rattle.rules.proofs.Valid.{ChildrenValid, Valid}
 
 -- the test of equal SPIs goes both ways
@@ -86,10 +86,10 @@ module _ (x : Line) (v : Valid x) where
       → leb 8 (length (x .children)) ≡ false → Valid (withChildren x (x .children ++ record { spi = spi; session = session } ∷ []))
   child-made-valid spi session good on new room =
       with-children (x .children ++ record { spi = spi; session = session } ∷ [])
-      (one-more spi session good (x .phase) (x .children) (v .children-valid) (is-live (x .phase) on) new room)
+      (one-more spi session good (x .phase) (x .children) (v .children-valid) (sym (live-is (x .phase)) ∙ on) new room)
 
   pub child-deleted-valid : (spi : ℕ) → isIn "live" (x .phase) ≡ true → Valid (withChildren x (only (isOther spi) (x .children)))
-  child-deleted-valid spi on = with-children (only (isOther spi) (x .children)) (one-less spi (x .phase) (x .children) (v .children-valid) (is-live (x .phase) on))
+  child-deleted-valid spi on = with-children (only (isOther spi) (x .children)) (one-less spi (x .phase) (x .children) (v .children-valid) (sym (live-is (x .phase)) ∙ on))
 
   -- the line goes with all its children
   pub deleted-valid : Valid (withChildren (inPhase x Idle) [])

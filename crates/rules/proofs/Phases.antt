@@ -47,18 +47,18 @@ not-idle t h (Eap a i) e = refl
 not-idle t h (Sure a) e = refl
 not-idle t h (Live a) e = refl
 
--- the word of a live line
-pub is-live : (p : Phase) → isIn "live" p ≡ true → isLive p ≡ true
+-- the two ways to say that a line is live
+pub live-is : (p : Phase) → isIn "live" p ≡ isLive p
 unfolding isIn word text same isLive
-is-live Idle e = e
-is-live (Country f) e = e
-is-live (Name f) e = e
-is-live (Chosen a) e = e
-is-live (Init a) e = e
-is-live (Auth a) e = e
-is-live (Eap a t) e = e
-is-live (Sure a) e = e
-is-live (Live a) e = refl
+live-is Idle = refl
+live-is (Country f) = refl
+live-is (Name f) = refl
+live-is (Chosen a) = refl
+live-is (Init a) = refl
+live-is (Auth a) = refl
+live-is (Eap a t) = refl
+live-is (Sure a) = refl
+live-is (Live a) = refl
 
 -- the chosen address of a phase
 module _ (p : Phase) (a : Address) (e : chosen p ≡ some a) where

@@ -8,12 +8,11 @@ use native.Mathlib.Omega.{arith}
 use lib.Dec.{eqb, leb, ltb}
 use lib.ListN.{length}
 use borrow.Author.Tests.{eqb-true, leb-true, not-false, not-true}
-use Rattle.octets.specs.Part.{same}
 use Rattle.octets.specs.Refusal.{_when_}
 use Rattle.octets.specs.Row.{keep, only}
 use Rattle.octets.specs.Search.{anyOf, distinct}
 use Rattle.octets.proofs.Refusals.{refusal-step}
-use Rattle.octets.proofs.Search.{and-left, and-right, or-left, or-right}
+use Rattle.octets.proofs.Search.{and-left, and-right, or-left, or-other, or-right}
 use Rattle.children.specs.Children.{hasSpi, isSpi, sameSpi, spisDiffer}
 use Rattle.children.specs.declared.Child.{Child}
 use Rattle.config.specs.Settings.{Settings, configOf}
@@ -25,69 +24,39 @@ use Rattle.gateway.specs.declared.Found.{Found}
 use Rattle.gateway.specs.declared.Found.the-variants as Found
 use Rattle.lists.specs.Lists.{addressesIn, networksIn}
 use Rattle.network.specs.declared.Plmn.{Plmn}
-use Rattle.phase.specs.declared.Phase.{Phase}
-use Rattle.phase.specs.declared.Phase.the-variants.{Idle, Country, Name, Chosen, Init, Auth, Eap, Sure, Live}
+use Rattle.phase.specs.declared.Phase.the-variants.{Country, Chosen}
 use Rattle.place.specs.declared.Facts.{Facts}
 use Rattle.record.specs.Line.{Line}
-use Rattle.record.specs.Sound.{childrenSound, holdsSound, inRange, isLive, lineSound}
+use Rattle.record.specs.Sound.{isLive}
 use Rattle.selection.specs.Selection as Selection
 use Rattle.selection.specs.declared.Choice.{Choice}
 use Rattle.selection.specs.declared.Choice.the-variants as Choice
-use Rattle.text.specs.Text.{text}
 use Rattle.rules.specs.Call.{Event, start, country, address, begin, init, eap, reply, final, error, congestion, give-up, child-made, child-deleted, ike-delete, timed, factsOf, pairOf}
 use Rattle.rules.specs.Claims.{Good, Timed, childrenAfter, lineIn}
 use Rattle.rules.specs.Life.{addressed, answered, asking, becomes, congested, current, decided, finished, found, goes, held, inPhase, isOther, keeps, outcome, packetTaken, replied, started, withChildren}
-use Rattle.rules.specs.Phases.{factsIn, isIn, owed, turnIn, word}
+use Rattle.rules.specs.Phases.{factsIn, isIn, owed, turnIn}
 use Rattle.rules.specs.Refusals.{badChild, refusalsOf, unless}
 use Rattle.rules.specs.Run.{run}
-use Rattle.rules.proofs.Accepted.{found-sound}
+use Rattle.rules.proofs.Accepted.{found-held, found-sound}
+use Rattle.rules.proofs.Phases.{live-is}
 use Rattle.rules.proofs.Timed.{no-ground, timed-run}
-
--- the two ways to say that a line is live
-live-is : (p : Phase) → isIn "live" p ≡ isLive p
-unfolding isIn word text same isLive
-live-is Idle = refl
-live-is (Country f) = refl
-live-is (Name f) = refl
-live-is (Chosen a) = refl
-live-is (Init a) = refl
-live-is (Auth a) = refl
-live-is (Eap a t) = refl
-live-is (Sure a) = refl
-live-is (Live a) = refl
+use Rattle.rules.proofs.Valid.{Valid, valid-of}
 
 none-left : (cs : List Child) → length cs ≤ 0 → cs ≡ []
 none-left [] h = refl
 none-left (c ∷ cs) h = absurd (omega arith)
 
--- what the soundness of a line says of its children
-children-sound : (x : Line) → lineSound x ≡ true → childrenSound (x .phase) (x .children) ≡ true
-unfolding lineSound
-children-sound x sound =
-    let p = x .phase in
-    let cs = x .children in
-    and-right (inRange p cs) (childrenSound p cs) (and-left (inRange p cs && childrenSound p cs) (holdsSound (x .time) p (x .holds)) sound)
-
-spis-differ : (x : Line) → lineSound x ≡ true → spisDiffer (x .children) ≡ true
-unfolding childrenSound
-spis-differ x sound =
-    let few = leb (length (x .children)) 8 in
-    let live = isLive (x .phase) || leb (length (x .children)) 0 in
-    and-right (few && live) (spisDiffer (x .children)) (children-sound x sound)
-
--- a sound line that is not live has no children
-childless : (x : Line) → lineSound x ≡ true → isIn "live" (x .phase) ≡ false → x .children ≡ []
-unfolding childrenSound
-childless x sound e =
-    let p = x .phase in
-    let cs = x .children in
-    let live = isLive p || leb (length cs) 0 in
-    let there : live ≡ true = and-right (leb (length cs) 8) live (and-left (leb (length cs) 8 && live) (spisDiffer cs) (children-sound x sound)) in
-    none-left cs (leb-true (length cs) 0 (ap (λ (b : Bool). b || leb (length cs) 0) (sym (sym (live-is p) ∙ e)) ∙ there))
+-- the line of an open pair of a sound table is valid
+line-valid : (tenant line : ℕ) (l : List ℕ) (x : Line) → Good l → lineIn l tenant line ≡ some x → Valid x
+unfolding lineIn pairOf
+line-valid tenant line l x good e =
+    let p = pairOf tenant line in
+    valid-of x (found-sound l good p (omega arith) x e) (found-held l good p (omega arith) x e)
 
 pub tunnels-live : (tenant line : ℕ) (l : List ℕ) (x : Line) → Good l → lineIn l tenant line ≡ some x → isIn "live" (x .phase) ≡ false → x .children ≡ []
-unfolding lineIn pairOf
-tunnels-live tenant line l x good e h = childless x (found-sound l good (pairOf tenant line) (omega arith) x e) h
+tunnels-live tenant line l x good e h =
+    let few = leb (length (x .children)) 0 in
+    none-left (x .children) (leb-true (length (x .children)) 0 (or-other (isLive (x .phase)) few (line-valid tenant line l x good e .children-valid .on-live) (sym (live-is (x .phase)) ∙ h)))
 
 module _ (x : Line) where
   found-children : (f : Found) → found x f .line .children ≡ x .children
@@ -195,12 +164,12 @@ module _ (tenant line time spi : ℕ) (l : List ℕ) (x : Line) where
   pub tunnels-deleted : Timed tenant line time (child-deleted spi) l x
       → (lineIn (run (timed tenant line time (child-deleted spi)) l .table) tenant line ≡ some (withChildren (current time x) (only (isOther spi) (x .children))))
       × (suc (length (only (isOther spi) (x .children))) ≡ length (x .children))
-  unfolding refusalsOf unless outcome becomes current lineIn pairOf
+  unfolding refusalsOf unless outcome becomes current
   tunnels-deleted t =
       let e = child-deleted spi in
       let live = isIn "live" (x .phase) in
       let both = live && hasSpi spi (x .children) in
       let there : both ≡ true = not-false both (refusal-step 9 (not both) [] (refusal-step 7 (ltb 4294967295 time) ((10 when not both) ∷ []) (no-ground tenant line time e l x t) .1) .0) in (
         timed-run tenant line time e l x t .1,
-        one-less spi (x .children) (spis-differ x (found-sound l (t .good) (pairOf tenant line) (omega arith) x (t .stands))) (and-right live (hasSpi spi (x .children)) there),
+        one-less spi (x .children) (line-valid tenant line l x (t .good) (t .stands) .children-valid .differ) (and-right live (hasSpi spi (x .children)) there),
       )
