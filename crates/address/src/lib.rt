@@ -22,6 +22,9 @@ pub struct Hold {
     pub end: End,
 }
 
+// How many holds a line has room for.
+pub const HOLDS: usize = 8;
+
 // The IP version of an address: 4 or 6.
 pub fn version(a: Address) -> u64
     ensures { λ r. ⌜ r ≡ versionOf a ⌝ }
@@ -49,7 +52,7 @@ pub fn same_address(a: Address, b: Address) -> bool
 }
 
 // Whether an address stands among the first n holds, from a place on.
-pub fn is_held(holds: [Hold; 8], from: usize, n: usize, a: Address) -> bool
+pub fn is_held(holds: [Hold; HOLDS], from: usize, n: usize, a: Address) -> bool
     requires { ⌜ (from ≤ n) × (n ≤ 8) ⌝ }
     ensures { λ r. ⌜ r ≡ stands a (drop from (heldIn holds n)) ⌝ }
 {
@@ -66,7 +69,7 @@ pub fn is_held(holds: [Hold; 8], from: usize, n: usize, a: Address) -> bool
 }
 
 // Whether an address has the local IP version and is not on hold.
-pub fn is_permitted(a: Address, local: u64, holds: [Hold; 8], n: usize) -> bool
+pub fn is_permitted(a: Address, local: u64, holds: [Hold; HOLDS], n: usize) -> bool
     requires { ⌜ n ≤ 8 ⌝ }
     ensures { λ r. ⌜ r ≡ permitted local (heldIn holds n) a ⌝ }
 {

@@ -17,6 +17,9 @@ pub struct Child {
     pub session: u64,
 }
 
+// How many children a line has room for.
+pub const CHILDREN: usize = 8;
+
 // The child at a place.
 fn read_child(b: &[u8], at: usize) -> Child
     requires { ⌜ at + 5 ≤ length (now b) ⌝ }
@@ -38,11 +41,11 @@ fn put_child(b: &mut [u8], at: usize, child: Child)
 }
 
 // The first n children of those that begin at a place.
-pub fn read_children(b: &[u8], at: usize, n: usize) -> [Child; 8]
+pub fn read_children(b: &[u8], at: usize, n: usize) -> [Child; CHILDREN]
     requires { ⌜ (at + 40 ≤ length (now b)) × (n ≤ 8) ⌝ }
     ensures { λ r. ⌜ take n r ≡ childrenFrom (now (b .entry)) at n ⌝ }
 {
-    let mut list = [Child { spi: 0, session: 0 }; 8];
+    let mut list = [Child { spi: 0, session: 0 }; CHILDREN];
     let mut i = 0;
     while i < n {
         list[i] = read_child(b, at + 5 * i);
@@ -52,7 +55,7 @@ pub fn read_children(b: &[u8], at: usize, n: usize) -> [Child; 8]
 }
 
 // Stores the first n children of a list from a place on.
-pub fn put_children(b: &mut [u8], at: usize, list: [Child; 8], n: usize)
+pub fn put_children(b: &mut [u8], at: usize, list: [Child; CHILDREN], n: usize)
     requires { ⌜ (at + 40 ≤ length (now b)) × (n ≤ 8) ⌝ }
     ensures { λ _. ⌜ Wrote (now (b .entry)) at (joined childOctets (take n list)) (now (b .exit)) ⌝ }
     ensures { λ _. ⌜ length (take n list) ≡ n ⌝ }
@@ -70,14 +73,14 @@ pub fn are_written(b: &[u8], at: usize, n: usize) -> bool
     requires { ⌜ at + 40 ≤ length (now b) ⌝ }
     ensures { λ r. ⌜ r ≡ childrenWritten (now (b .entry)) at n ⌝ }
 {
-    if 8 < n {
+    if CHILDREN < n {
         return false;
     }
     zeros_at(b, at + 5 * n, 40 - 5 * n)
 }
 
 // Whether an SPI stands among the first n children, from a place on.
-pub fn has_spi(list: [Child; 8], from: usize, n: usize, spi: u64) -> bool
+pub fn has_spi(list: [Child; CHILDREN], from: usize, n: usize, spi: u64) -> bool
     requires { ⌜ (from ≤ n) × (n ≤ 8) ⌝ }
     ensures { λ r. ⌜ r ≡ hasSpi spi (drop from (take n list)) ⌝ }
 {
@@ -93,7 +96,7 @@ pub fn has_spi(list: [Child; 8], from: usize, n: usize, spi: u64) -> bool
 }
 
 // Whether the first n children have different SPIs.
-pub fn are_different(list: [Child; 8], n: usize) -> bool
+pub fn are_different(list: [Child; CHILDREN], n: usize) -> bool
     requires { ⌜ n ≤ 8 ⌝ }
     ensures { λ r. ⌜ r ≡ spisDiffer (take n list) ⌝ }
 {
@@ -116,7 +119,7 @@ pub fn child_fits(child: Child) -> bool
 }
 
 // Whether the numbers of each of the first n children are in their ranges.
-pub fn all_fit(list: [Child; 8], n: usize) -> bool
+pub fn all_fit(list: [Child; CHILDREN], n: usize) -> bool
     requires { ⌜ n ≤ 8 ⌝ }
     ensures { λ r. ⌜ r ≡ allOf childFits (take n list) ⌝ }
 {

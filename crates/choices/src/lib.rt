@@ -2,6 +2,7 @@
 pub mod damage;
 
 use address::Address;
+use address::HOLDS;
 use address::Hold;
 use answers::put_number;
 use answers::put_text;
@@ -146,7 +147,7 @@ fn put_asked(choice: Choice, text: &[u8])
 }
 
 // Writes what is done next, an address being gone through as a list of one.
-fn put_choice(choice: Choice, text: &[u8], version: u64, holds: [Hold; 8], n: usize)
+fn put_choice(choice: Choice, text: &[u8], version: u64, holds: [Hold; HOLDS], n: usize)
     requires { ⌜ TextWithin (now text) choice × (n ≤ 8) ⌝ }
 {
     match choice {
@@ -182,7 +183,7 @@ fn put_refusal(parsed: Parsed, place: Place) -> bool {
 }
 
 // Writes what start comes to.
-pub fn put_start(text: &[u8], facts: Facts, holds: [Hold; 8], n: usize)
+pub fn put_start(text: &[u8], facts: Facts, holds: [Hold; HOLDS], n: usize)
     requires { ⌜ n ≤ 8 ⌝ }
 {
     let parsed = parse(text);
@@ -205,7 +206,7 @@ fn is_answer(replied: bool, networks: &[u8]) -> bool {
 pub fn put_country(
     text: &[u8],
     facts: Facts,
-    holds: [Hold; 8],
+    holds: [Hold; HOLDS],
     n: usize,
     replied: bool,
     networks: &[u8],
@@ -231,7 +232,7 @@ pub fn put_country(
 }
 
 // Writes what the address answer comes to.
-pub fn put_addresses(version: u64, holds: [Hold; 8], n: usize, list: &[u8])
+pub fn put_addresses(version: u64, holds: [Hold; HOLDS], n: usize, list: &[u8])
     requires { ⌜ n ≤ 8 ⌝ }
 {
     if addresses_fit(list) {

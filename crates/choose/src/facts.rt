@@ -1,6 +1,7 @@
 // What the fields of a request say of the place, the registered PLMN, the IP version and the holds.
 use address::Address;
 use address::End;
+use address::HOLDS;
 use address::Hold;
 use fields::Said;
 use fields::decimal;
@@ -39,7 +40,7 @@ pub(crate) enum Stated {
 // The holds that a field says: those below the count.
 pub(crate) struct Held {
     pub ok: bool,
-    pub list: [Hold; 8],
+    pub list: [Hold; HOLDS],
     pub count: usize,
 }
 
@@ -126,7 +127,7 @@ fn holds_in(list: &[u8], ok: bool) -> Held
         address: Address::V4(0),
         end: End::Never,
     };
-    let mut holds = [none; 8];
+    let mut holds = [none; HOLDS];
     let n = list.len() / 17;
     let mut i = 0;
     while i < n {

@@ -1,5 +1,6 @@
 // Choosing an address of the gateway.
 use address::Address;
+use address::HOLDS;
 use address::Hold;
 use address::is_permitted;
 use lists::address_at;
@@ -19,7 +20,7 @@ pub enum Found {
 }
 
 // Chooses from a list of addresses.
-pub fn choose(list: &[u8], local: u64, holds: [Hold; 8], n: usize) -> Found
+pub fn choose(list: &[u8], local: u64, holds: [Hold; HOLDS], n: usize) -> Found
     requires { ⌜ n ≤ 8 ⌝ }
     ensures { λ r. ⌜ r ≡ choose local (heldIn holds n) (addressesIn (now (list .entry))) ⌝ }
 {
@@ -36,7 +37,7 @@ pub fn choose(list: &[u8], local: u64, holds: [Hold; 8], n: usize) -> Found
 }
 
 // Chooses from a list of one address.
-pub fn choose_one(a: Address, local: u64, holds: [Hold; 8], n: usize) -> Found
+pub fn choose_one(a: Address, local: u64, holds: [Hold; HOLDS], n: usize) -> Found
     requires { ⌜ n ≤ 8 ⌝ }
     ensures { λ r. ⌜ r ≡ choose local (heldIn holds n) (a ∷ []) ⌝ }
 {

@@ -1,6 +1,7 @@
 // The holds of a line in octets.
 use address::Address;
 use address::End;
+use address::HOLDS;
 use address::Hold;
 use address::is_held;
 use addresses::is_address;
@@ -61,14 +62,14 @@ fn put_hold(b: &mut [u8], at: usize, hold: Hold)
 }
 
 // The first n holds of those that begin at a place.
-pub fn read_holds(b: &[u8], at: usize, n: usize) -> [Hold; 8]
+pub fn read_holds(b: &[u8], at: usize, n: usize) -> [Hold; HOLDS]
     requires { ⌜ (at + 176 ≤ length (now b)) × (n ≤ 8) ⌝ }
     ensures { λ r. ⌜ take n r ≡ holdsFrom (now (b .entry)) at n ⌝ }
 {
     let mut list = [Hold {
         address: Address::V4(0),
         end: End::Never,
-    }; 8];
+    }; HOLDS];
     let mut i = 0;
     while i < n {
         list[i] = read_hold(b, at + 22 * i);
@@ -78,7 +79,7 @@ pub fn read_holds(b: &[u8], at: usize, n: usize) -> [Hold; 8]
 }
 
 // Stores the first n holds of a list from a place on.
-pub fn put_holds(b: &mut [u8], at: usize, list: [Hold; 8], n: usize)
+pub fn put_holds(b: &mut [u8], at: usize, list: [Hold; HOLDS], n: usize)
     requires { ⌜ (at + 176 ≤ length (now b)) × (n ≤ 8) ⌝ }
     ensures { λ _. ⌜ Wrote (now (b .entry)) at (joined holdOctets (take n list)) (now (b .exit)) ⌝ }
     ensures { λ _. ⌜ length (take n list) ≡ n ⌝ }
@@ -96,7 +97,7 @@ pub fn are_written(b: &[u8], at: usize, n: usize) -> bool
     requires { ⌜ at + 176 ≤ length (now b) ⌝ }
     ensures { λ r. ⌜ r ≡ holdsWritten (now (b .entry)) at n ⌝ }
 {
-    if 8 < n {
+    if HOLDS < n {
         return false;
     }
     let mut i = 0;
@@ -110,7 +111,7 @@ pub fn are_written(b: &[u8], at: usize, n: usize) -> bool
 }
 
 // Whether the first n holds are for different addresses.
-pub fn are_different(list: [Hold; 8], n: usize) -> bool
+pub fn are_different(list: [Hold; HOLDS], n: usize) -> bool
     requires { ⌜ n ≤ 8 ⌝ }
     ensures { λ r. ⌜ r ≡ different (heldIn list n) ⌝ }
 {
@@ -137,7 +138,7 @@ fn ends_after(end: End, time: u64) -> bool
 }
 
 // Whether each of the first n holds ends after a time.
-pub fn all_end_after(list: [Hold; 8], n: usize, time: u64) -> bool
+pub fn all_end_after(list: [Hold; HOLDS], n: usize, time: u64) -> bool
     requires { ⌜ n ≤ 8 ⌝ }
     ensures { λ r. ⌜ r ≡ allOf (endsAfter time) (take n list) ⌝ }
 {

@@ -1,7 +1,9 @@
 // The record of a line.
 pub mod sound;
 
+use address::HOLDS;
 use address::Hold;
+use children::CHILDREN;
 use children::Child;
 use children::put_children;
 use children::read_children;
@@ -28,9 +30,9 @@ ghost use Rattle.record.specs.Octets.{lineFrom, recordOctets};
 pub struct Record {
     pub time: u64,
     pub phase: Phase,
-    pub holds: [Hold; 8],
+    pub holds: [Hold; HOLDS],
     pub hold_count: usize,
-    pub children: [Child; 8],
+    pub children: [Child; CHILDREN],
     pub child_count: usize,
 }
 
@@ -71,9 +73,9 @@ fn put_parts(
     pair: u64,
     time: u64,
     phase: Phase,
-    holds: [Hold; 8],
+    holds: [Hold; HOLDS],
     m: usize,
-    children: [Child; 8],
+    children: [Child; CHILDREN],
     n: usize,
 )
     requires { ⌜ (length (now b) ≡ 243) × (m ≤ 8) × (n ≤ 8) ⌝ }

@@ -1,7 +1,9 @@
 // When a record is sound.
 use crate::read_record;
+use address::HOLDS;
 use address::Hold;
 use address::is_held;
+use children::CHILDREN;
 use children::Child;
 use children::all_fit;
 use holds::all_end_after;
@@ -62,7 +64,7 @@ fn is_live(phase: Phase) -> bool
 }
 
 // Whether none of the first n holds is the chosen address.
-fn is_free(phase: Phase, holds: [Hold; 8], n: usize) -> bool
+fn is_free(phase: Phase, holds: [Hold; HOLDS], n: usize) -> bool
     requires { ⌜ n ≤ 8 ⌝ }
     ensures { λ r. ⌜ r ≡ isFree (chosen phase) (heldIn holds n) ⌝ }
 {
@@ -80,7 +82,7 @@ fn is_free(phase: Phase, holds: [Hold; 8], n: usize) -> bool
 }
 
 // Whether the first n children are those that a line in a phase may have.
-fn are_children(phase: Phase, list: [Child; 8], n: usize) -> bool
+fn are_children(phase: Phase, list: [Child; CHILDREN], n: usize) -> bool
     requires { ⌜ n ≤ 8 ⌝ }
     ensures { λ r. ⌜ r ≡ childrenSound phase (take n list) ⌝ }
 {
@@ -91,7 +93,7 @@ fn are_children(phase: Phase, list: [Child; 8], n: usize) -> bool
 }
 
 // Whether the first n holds are those that a line in a phase may have.
-fn are_holds(time: u64, phase: Phase, list: [Hold; 8], n: usize) -> bool
+fn are_holds(time: u64, phase: Phase, list: [Hold; HOLDS], n: usize) -> bool
     requires { ⌜ n ≤ 8 ⌝ }
     ensures { λ r. ⌜ r ≡ holdsSound time phase (take n list) ⌝ }
 {
@@ -111,9 +113,9 @@ fn are_holds(time: u64, phase: Phase, list: [Hold; 8], n: usize) -> bool
 fn are_lists(
     time: u64,
     phase: Phase,
-    holds: [Hold; 8],
+    holds: [Hold; HOLDS],
     m: usize,
-    children: [Child; 8],
+    children: [Child; CHILDREN],
     n: usize,
 ) -> bool
     requires { ⌜ (m ≤ 8) × (n ≤ 8) ⌝ }

@@ -1,9 +1,11 @@
 // A line in words and numbers.
 use address::Address;
 use address::End;
+use address::HOLDS;
 use address::Hold;
 use answers::put_number;
 use answers::put_text;
+use children::CHILDREN;
 use children::Child;
 use choices::put_address;
 use choices::put_plmn;
@@ -94,7 +96,7 @@ fn put_end(end: End) {
 }
 
 // Writes the first n holds of a list.
-fn put_holds(list: [Hold; 8], n: usize)
+fn put_holds(list: [Hold; HOLDS], n: usize)
     requires { ⌜ n ≤ 8 ⌝ }
 {
     let mut i = 0;
@@ -109,7 +111,7 @@ fn put_holds(list: [Hold; 8], n: usize)
 }
 
 // Writes the first n children of a list.
-fn put_children(list: [Child; 8], n: usize)
+fn put_children(list: [Child; CHILDREN], n: usize)
     requires { ⌜ n ≤ 8 ⌝ }
 {
     let mut i = 0;
