@@ -8,7 +8,7 @@ use Rattle.address.specs.declared.Address.{Address}
 use Rattle.address.specs.declared.Address.the-variants.{V4}
 use Rattle.address.specs.declared.End.the-variants.{At}
 use Rattle.address.specs.declared.Hold.{Hold}
-use Rattle.address.specs.Address.{addressIn, heldIn}
+use Rattle.address.specs.Address.{addressIn, heldAddresses}
 
 -- what stands past the end of a list
 abbrev pub none : Hold
@@ -21,12 +21,11 @@ map-drop [] (suc i) = refl
 map-drop (h ∷ l) (suc i) = map-drop l i
 
 module _ (l : List Hold) (n i : ℕ) (long : n ≤ length l) where
-  pub held-more : i < n → drop i (heldIn l n) ≡ getD l i none .address ∷ drop (i + 1) (heldIn l n)
-  unfolding heldIn addressIn
+  pub held-more : i < n → drop i (heldAddresses (take n l)) ≡ getD l i none .address ∷ drop (i + 1) (heldAddresses (take n l))
+  unfolding addressIn
   held-more h =
       map-drop (take n l) i ∙ ap (map addressIn) (left-more l n i long none h)
       ∙ ap (λ (rest : List Address). getD l i none .address ∷ rest) (sym (map-drop (take n l) (i + 1)))
 
-  pub held-done : n ≤ i → drop i (heldIn l n) ≡ []
-  unfolding heldIn
+  pub held-done : n ≤ i → drop i (heldAddresses (take n l)) ≡ []
   held-done h = map-drop (take n l) i ∙ ap (map addressIn) (left-none l n i long h)

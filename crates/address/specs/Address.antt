@@ -3,7 +3,6 @@ use Prim.Native.Nat.{ℕ}
 use mathlib.Core.Bool.{Bool, false, not, _&&_}
 use mathlib.Core.List.{List, map}
 use lib.Dec.{eqb}
-use lib.ListN.{take}
 use Rattle.octets.specs.Search.{anyOf}
 use Rattle.address.specs.declared.Address.{Address}
 use Rattle.address.specs.declared.Address.the-variants.{V4, V6}
@@ -29,9 +28,9 @@ stands a bs = anyOf (sameAddress a) bs
 unfoldable pub addressIn : Hold → Address
 addressIn h = h .address
 
--- the addresses of the first n holds
-unfoldable pub heldIn : List Hold → ℕ → List Address
-heldIn holds n = map addressIn (take n holds)
+-- the addresses on hold
+abbrev pub heldAddresses : List Hold → List Address
+heldAddresses hs = map addressIn hs
 
 -- an address of the local IP version that is not on hold
 unfoldable pub permitted : ℕ → List Address → Address → Bool

@@ -1,8 +1,8 @@
 // IP addresses of both versions, and when one is permitted.
 ghost use mathlib.Core.Path.{_≡_};
 ghost use Prim.Native.Nat.{_≤_};
-ghost use lib.ListN.{drop};
-ghost use Rattle.address.specs.Address.{heldIn, permitted, sameAddress, stands, versionOf};
+ghost use lib.ListN.{drop, take};
+ghost use Rattle.address.specs.Address.{heldAddresses, permitted, sameAddress, stands, versionOf};
 
 // An address: 32 bits of version 4, or the two halves of 128 bits of version 6.
 pub enum Address {
@@ -54,7 +54,7 @@ pub fn same_address(a: Address, b: Address) -> bool
 // Whether an address stands among the first n holds, from a place on.
 pub fn is_held(holds: [Hold; HOLDS], from: usize, n: usize, a: Address) -> bool
     requires { ⌜ (from ≤ n) × (n ≤ 8) ⌝ }
-    ensures { λ r. ⌜ r ≡ stands a (drop from (heldIn holds n)) ⌝ }
+    ensures { λ r. ⌜ r ≡ stands a (drop from (heldAddresses (take n holds))) ⌝ }
 {
     let mut i = from;
     while i < n {
@@ -71,7 +71,7 @@ pub fn is_held(holds: [Hold; HOLDS], from: usize, n: usize, a: Address) -> bool
 // Whether an address has the local IP version and is not on hold.
 pub fn is_permitted(a: Address, local: u64, holds: [Hold; HOLDS], n: usize) -> bool
     requires { ⌜ n ≤ 8 ⌝ }
-    ensures { λ r. ⌜ r ≡ permitted local (heldIn holds n) a ⌝ }
+    ensures { λ r. ⌜ r ≡ permitted local (heldAddresses (take n holds)) a ⌝ }
 {
     if version(a) != local {
         return false;

@@ -18,11 +18,11 @@ use Rattle.octets.proofs.Stands.{Stands, from-part, before, behind, says, zeros
 use Rattle.address.specs.declared.Address.{Address}
 use Rattle.address.specs.declared.Address.the-variants.{V4, V6}
 use Rattle.addresses.specs.Addresses.{addressFrom, addressOctets, isAddress, versionFrom}
-use Rattle.addresses.specs.Laws.{addressHeld}
+use Rattle.addresses.specs.Laws.{addressStorable}
 
 module _ (l : List ℕ) (at : ℕ) {r : List ℕ} where
-  pub address-back : (a : Address) → addressHeld a ≡ true → Stands l at (addressOctets a) r → (addressFrom l at ≡ a) × (isAddress l at ≡ true)
-  unfolding addressOctets addressFrom addressHeld isAddress versionFrom be digits zeros
+  pub address-back : (a : Address) → addressStorable a ≡ true → Stands l at (addressOctets a) r → (addressFrom l at ≡ a) × (isAddress l at ≡ true)
+  unfolding addressOctets addressFrom addressStorable isAddress versionFrom be digits zeros
   address-back (V4 x) h e =
       let two = before (be 1 4 ++ be 4 x) (zeros 12) e in
       let version : field l at 1 ≡ 4 = says 1 4 (omega arith) (before (be 1 4) (be 4 x) two) in
@@ -36,7 +36,7 @@ module _ (l : List ℕ) (at : ℕ) {r : List ℕ} where
       let low : field l (at + 9) 8 ≡ y = says 8 y (ltb-true y (2 ^ 64) (and-right (ltb x (2 ^ 64)) (ltb y (2 ^ 64)) h)) (behind (be 1 6 ++ be 8 x) (be 8 y) 9 refl e) in
       (rw (version, high, low), rw version)
 
-pub read-back : (l : List ℕ) (at : ℕ) (a : Address) → addressHeld a ≡ true → part l at 17 ≡ addressOctets a
+pub read-back : (l : List ℕ) (at : ℕ) (a : Address) → addressStorable a ≡ true → part l at 17 ≡ addressOctets a
     → (addressFrom l at ≡ a) × (isAddress l at ≡ true)
 read-back l at a h e = address-back l at a h (from-part l at 17 (addressOctets a) e)
 
@@ -61,15 +61,15 @@ pub write-back : (l : List ℕ) (at : ℕ) → allOf (below 256) l ≡ true → 
     → part l at 17 ≡ addressOctets (addressFrom l at)
 write-back l at octets fits w = sym (address-octets l octets at fits w)
 
-pub held : (l : List ℕ) (at : ℕ) → allOf (below 256) l ≡ true → at + 17 ≤ length l → addressHeld (addressFrom l at) ≡ true
-unfolding addressFrom addressHeld
-held l at octets fits =
+pub storable : (l : List ℕ) (at : ℕ) → allOf (below 256) l ≡ true → at + 17 ≤ length l → addressStorable (addressFrom l at) ≡ true
+unfolding addressFrom addressStorable
+storable l at octets fits =
     let x = field l (at + 1) 4 in
     let high = field l (at + 1) 8 in
     let low = field l (at + 9) 8 in
     let halves : ltb high (2 ^ 64) && ltb low (2 ^ 64) ≡ true =
     and-true (ltb high (2 ^ 64)) (ltb low (2 ^ 64)) (lt-ltb high (2 ^ 64) (field-below l octets (at + 1) 8 (omega arith))) (lt-ltb low (2 ^ 64) (field-below l octets (at + 9) 8 (omega arith))) in
-    cond-passes addressHeld (eqb (versionFrom l at) 4) (V4 x) (V6 high low) (lt-ltb x (2 ^ 32) (field-below l octets (at + 1) 4 (omega arith))) halves
+    cond-passes addressStorable (eqb (versionFrom l at) 4) (V4 x) (V6 high low) (lt-ltb x (2 ^ 32) (field-below l octets (at + 1) 4 (omega arith))) halves
 
 -- every octet of an address is one
 pub octets : (a : Address) → Octets (addressOctets a)

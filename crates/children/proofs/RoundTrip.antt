@@ -18,14 +18,14 @@ use Rattle.octets.proofs.Rows.{row-passes}
 use Rattle.octets.proofs.Search.{and-left, and-right, and-true}
 use Rattle.octets.proofs.Stands.{Stands, before, behind, says}
 use Rattle.children.specs.Children.{childFrom, childIn, childOctets, childrenFrom, childrenOctets, childrenWritten}
-use Rattle.children.specs.Laws.{childHeld}
+use Rattle.children.specs.Laws.{childStorable}
 use Rattle.children.specs.declared.Child.{Child}
 use Rattle.children.proofs.Widths.{child-wide}
 
 -- one child
 module _ (l : List ℕ) (at : ℕ) where
-  child-back : (c : Child) (r : List ℕ) → childHeld c ≡ true → Stands l at (childOctets c) r → childFrom l at ≡ c
-  unfolding childOctets childFrom childHeld be digits
+  child-back : (c : Child) (r : List ℕ) → childStorable c ≡ true → Stands l at (childOctets c) r → childFrom l at ≡ c
+  unfolding childOctets childFrom childStorable be digits
   child-back c r h e =
       let small-spi : ltb (c .spi) (256 ^ 4) ≡ true = and-left (ltb (c .spi) (256 ^ 4)) (ltb (c .session) 256) h in
       let small-session : ltb (c .session) 256 ≡ true = and-right (ltb (c .spi) (256 ^ 4)) (ltb (c .session) 256) h in
@@ -38,9 +38,9 @@ module _ (l : List ℕ) (at : ℕ) where
     unfolding childOctets childFrom
     child-octets = follow l at 4 1 (number-back l octets at 4 (field l at 4) (omega arith) refl) (number-back l octets (at + 4) 1 (field l (at + 4) 1) (omega arith) refl)
 
-    child-held : childHeld (childFrom l at) ≡ true
-    unfolding childHeld childFrom
-    child-held =
+    child-storable : childStorable (childFrom l at) ≡ true
+    unfolding childStorable childFrom
+    child-storable =
         let spi = field l at 4 in
         let session = field l (at + 4) 1 in
         and-true (ltb spi (256 ^ 4)) (ltb session 256) (lt-ltb spi (256 ^ 4) (field-below l octets at 4 (omega arith))) (lt-ltb session 256 (field-below l octets (at + 4) 1 (omega arith)))
@@ -50,11 +50,11 @@ pub octet-count : (cs : List Child) → length cs ≤ 8 → length (childrenOcte
 unfolding childrenOctets
 octet-count cs few = padded-count childOctets 5 child-wide 40 8 refl cs few
 
-pub read-back : (l : List ℕ) (at : ℕ) (cs : List Child) → length cs ≤ 8 → allOf childHeld cs ≡ true → part l at 40 ≡ childrenOctets cs
+pub read-back : (l : List ℕ) (at : ℕ) (cs : List Child) → length cs ≤ 8 → allOf childStorable cs ≡ true → part l at 40 ≡ childrenOctets cs
     → (childrenFrom l at (length cs) ≡ cs) × (childrenWritten l at (length cs) ≡ true)
 unfolding childrenFrom childrenOctets childrenWritten childIn
 read-back l at cs few h e =
-    let back = padded-back childOctets 5 child-wide l at childHeld (childIn l at) (λ i. true) (λ i x r k s. (child-back l (at + 5 * i) x r k s, refl)) 40 cs h e in
+    let back = padded-back childOctets 5 child-wide l at childStorable (childIn l at) (λ i. true) (λ i x r k s. (child-back l (at + 5 * i) x r k s, refl)) 40 cs h e in
     (back .0, rw (le-leb (length cs) 8 few, back .2))
 
 pub write-back : (l : List ℕ) (at n : ℕ) → allOf (below 256) l ≡ true → at + 40 ≤ length l → childrenWritten l at n ≡ true
@@ -65,9 +65,9 @@ write-back l at n octets fits w =
     let few : n ≤ 8 = leb-true n 8 (and-left (leb n 8) none w) in
     sym (padded-octets childOctets 5 child-wide l at (childIn l at) 40 n (omega arith) (λ k h. child-octets l (at + 5 * k) octets (omega arith)) (and-right (leb n 8) none w))
 
-pub held : (l : List ℕ) (at n : ℕ) → allOf (below 256) l ≡ true → at + 5 * n ≤ length l → allOf childHeld (childrenFrom l at n) ≡ true
+pub storable : (l : List ℕ) (at n : ℕ) → allOf (below 256) l ≡ true → at + 5 * n ≤ length l → allOf childStorable (childrenFrom l at n) ≡ true
 unfolding childrenFrom childIn
-held l at n octets fits = row-passes (childIn l at) childHeld 0 n (λ k h. child-held l (at + 5 * k) octets (omega arith))
+storable l at n octets fits = row-passes (childIn l at) childStorable 0 n (λ k h. child-storable l (at + 5 * k) octets (omega arith))
 
 -- every octet of the children is one
 pub octets : (cs : List Child) → Octets (childrenOctets cs)

@@ -13,14 +13,14 @@ use Rattle.octets.proofs.Sublists.{distinct-last, distinct-repeats}
 use Rattle.entry.specs.declared.field.Preferred.{Preferred}
 use Rattle.network.specs.Plmn.{among, samePlmn}
 use Rattle.network.specs.declared.Plmn.{Plmn}
-use Rattle.config.specs.Branch.{RunIs}
+use Rattle.config.specs.Branch.{SectionIs}
 use Rattle.config.specs.Lines.{entriesFrom}
-use Rattle.config.specs.Settings.{plmnIn, accepted, asListed, run}
-use Rattle.config.specs.declared.list.Run.{Run}
+use Rattle.config.specs.Settings.{plmnIn, accepted, asListed, section}
+use Rattle.config.specs.declared.list.Section.{Section}
 
 -- entries that are not accepted
-pub not-accepted : (bars : Bool) (l : List ℕ) (at : ℕ) (r : Run) → (r .ok ≡ false) × (r .count ≡ 0) × (r .next ≡ 0)
-    → false ≡ accepted (map plmnIn (run (asListed bars) (entriesFrom l at))) → RunIs bars l at r
+pub not-accepted : (bars : Bool) (l : List ℕ) (at : ℕ) (r : Section) → (r .ok ≡ false) × (r .count ≡ 0) × (r .next ≡ 0)
+    → false ≡ accepted (map plmnIn (section (asListed bars) (entriesFrom l at))) → SectionIs bars l at r
 not-accepted bars l at r h e₀ =
     let none : r .count ≡ 0 = h .1 in
     let start : r .next ≡ 0 = h .2 in

@@ -10,7 +10,7 @@ use Rattle.entry.specs.declared.Entry.the-variants.{End, Bad}
 use Rattle.entry.specs.declared.field.Preferred.{Preferred}
 use Rattle.config.specs.Lines.{entriesFrom}
 use Rattle.config.specs.Branch.{listedOf, nextOf, ListedIs}
-use Rattle.config.specs.Settings.{asListed, run, rest, taken, left}
+use Rattle.config.specs.Settings.{asListed, section, rest, taken, left}
 use Rattle.config.specs.declared.list.Listed.{Listed}
 use Rattle.config.specs.declared.list.Listed.the-variants.{Is, Not}
 
@@ -20,16 +20,16 @@ module _ (bars : Bool) (l : List ℕ) (at : ℕ) where
 
   -- nothing of the kind stands at the start
   pub nothing-listed : (e : Entry) (es : List Entry) → entriesFrom l at ≡ e ∷ es → asListed bars e ≡ none → ListedIs bars l at Not
-  unfolding run rest taken left
-  nothing-listed e es h k = (ap (run f) h ∙ ap (λ (o : Option Preferred). taken o (run f es)) k, ap (rest f) h ∙ ap (λ (o : Option Preferred). left o (e ∷ es) (rest f es)) k ∙ sym h)
+  unfolding section rest taken left
+  nothing-listed e es h k = (ap (section f) h ∙ ap (λ (o : Option Preferred). taken o (section f es)) k, ap (rest f) h ∙ ap (λ (o : Option Preferred). left o (e ∷ es) (rest f es)) k ∙ sym h)
 
   pub line-listed : (e : Entry) (next : ℕ) → entriesFrom l at ≡ e ∷ entriesFrom l next → at < next → next ≤ length l
       → (r : Listed) → listedOf r ≡ asListed bars e → nextOf r next → ListedIs bars l at r
-  unfolding run rest taken left listedOf
+  unfolding section rest taken left listedOf
   line-listed e next h below within Not k to = nothing-listed e (entriesFrom l next) h (sym k)
   line-listed e next h below within (Is p n) k to =
       subst (λ (m : ℕ). ListedIs bars l at (Is p m)) (sym to) (
-        ap (run f) h ∙ ap (λ (o : Option Preferred). taken o (run f (entriesFrom l next))) (sym k),
+        ap (section f) h ∙ ap (λ (o : Option Preferred). taken o (section f (entriesFrom l next))) (sym k),
         ap (rest f) h ∙ ap (λ (o : Option Preferred). left o (e ∷ entriesFrom l next) (rest f (entriesFrom l next))) (sym k),
         below,
         within,

@@ -7,7 +7,7 @@ use lib.Dec.{ltb}
 use borrow.Author.Tests.{ltb-true, ltb-false}
 use native.Mathlib.Omega.{arith}
 use lib.ListN.{length, drop, drop-of-length-le}
-use Rattle.octets.specs.Part.{part, holds}
+use Rattle.octets.specs.Part.{part, octetIs}
 use Rattle.octets.specs.Search.{least}
 use Rattle.octets.proofs.Parts.{length-part}
 use Rattle.octets.proofs.Search.{least-bound}
@@ -19,7 +19,7 @@ use Rattle.entry.proofs.Entries.{some-piece}
 use Rattle.entry.proofs.Names.{NameLine, name-line-size}
 use Rattle.entry.proofs.Splits.{split, whole}
 use Rattle.config.specs.Branch.{NameEnds}
-use Rattle.config.specs.Lines.{lastEntry, entries, entriesFrom, newline}
+use Rattle.config.specs.Lines.{lastEntry, entries, entriesFrom, lineEnd}
 use Rattle.config.specs.Settings.{isEnd, ends}
 
 module _ (l : List ℕ) (at : ℕ) where
@@ -42,7 +42,7 @@ module _ (l : List ℕ) (at : ℕ) where
 
   module _ (inside : at ≤ length l) where
     -- no newline ends what is left
-    pub unended : (at ≡ length l → ⊥) → (r : ℕ) → r ≡ at + least (length l - at) (holds l at 10) → r ≡ length l → entriesFrom l at ≡ Bad ∷ []
+    pub unended : (at ≡ length l → ⊥) → (r : ℕ) → r ≡ at + least (length l - at) (octetIs l at 10) → r ≡ length l → entriesFrom l at ≡ Bad ∷ []
     unfolding entriesFrom entries lastEntry
     unended h r first e = go (part l at (r - at)) (length-part l at (r - at) (omega arith)) (whole l 10 at r inside first e)
       where
@@ -51,9 +51,9 @@ module _ (l : List ℕ) (at : ℕ) where
         go (x ∷ m) q p = rw p
 
     -- a line ended by a newline is an entry, and the next line begins behind it
-    pub ended : (r : ℕ) → at ≤ r → r ≤ length l → r ≡ at + least (length l - at) (holds l at 10) → (r ≡ length l → ⊥) → (e : Entry) → e ≡ lineEntry (part l at (r - at))
-        → (entriesFrom l at ≡ e ∷ entriesFrom l (r + 1)) × (at < r + 1) × (r + 1 ≤ length l) × (r + 1 ≡ newline l at + 1) × NameEnds at e (r + 1)
-    unfolding entriesFrom entries newline
+    pub ended : (r : ℕ) → at ≤ r → r ≤ length l → r ≡ at + least (length l - at) (octetIs l at 10) → (r ≡ length l → ⊥) → (e : Entry) → e ≡ lineEntry (part l at (r - at))
+        → (entriesFrom l at ≡ e ∷ entriesFrom l (r + 1)) × (at < r + 1) × (r + 1 ≤ length l) × (r + 1 ≡ lineEnd l at + 1) × NameEnds at e (r + 1)
+    unfolding entriesFrom entries lineEnd
     ended r low high first h e q =
         let s = some-piece 10 (drop (r + 1) l) in
         let name = name-ends r (r - at) (omega arith) (lineEntry (part l at (r - at))) (subst (λ (m : ℕ). NameLine (lineEntry (part l at (r - at))) m) (length-part l at (r - at) (omega arith)) (name-line-size (part l at (r - at)))) in
@@ -72,18 +72,18 @@ some-entry l at =
 
 -- before the end of a text its end is not reached
 pub not-end : (l : List ℕ) (at : ℕ) → at ≤ length l → (at ≡ length l → ⊥) → isEnd (entriesFrom l at) ≡ false
-unfolding isEnd ends newline
+unfolding isEnd ends lineEnd
 not-end l at inside h = go (ltb r (length l)) refl
   where
     r : ℕ
-    r = at + least (length l - at) (holds l at 10)
+    r = at + least (length l - at) (octetIs l at 10)
 
     go : (t : Bool) → ltb r (length l) ≡ t → isEnd (entriesFrom l at) ≡ false
     go true e =
-        let bound = least-bound (length l - at) (holds l at 10) in
+        let bound = least-bound (length l - at) (octetIs l at 10) in
         let line = ended l at inside r (omega arith) (omega arith) refl (λ q. omega (arith, ltb-true r (length l) e)) _ refl in
         let s = some-entry l (r + 1) in
         rw (line .0, s .2)
     go false e =
-        let bound = least-bound (length l - at) (holds l at 10) in
+        let bound = least-bound (length l - at) (octetIs l at 10) in
         rw (unended l at inside h r refl (omega (arith, ltb-false r (length l) e)))

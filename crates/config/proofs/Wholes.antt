@@ -10,12 +10,12 @@ use Rattle.network.specs.declared.Plmn.{Plmn}
 use Rattle.entry.specs.declared.Entry.{Entry}
 use Rattle.entry.specs.declared.Entry.the-variants.{Home, Name, Preference, Bar, End, Bad}
 use Rattle.entry.specs.declared.Entry.the-variants as Entry
-use Rattle.config.specs.Lines.{entriesFrom, newline}
-use Rattle.config.specs.Branch.{NameEnds, skip, RunIs}
-use Rattle.config.specs.Settings.{plmnIn, accepted, asHome, asListed, asNode, run, rest, left, isEnd, ends, nodeOr, firstNode, afterNode, settle, withHome, fromHome, namePlace, configOf, NodeWithin}
+use Rattle.config.specs.Lines.{entriesFrom, lineEnd}
+use Rattle.config.specs.Branch.{NameEnds, skip, SectionIs}
+use Rattle.config.specs.Settings.{plmnIn, accepted, asHome, asListed, asNode, section, rest, left, isEnd, ends, nodeOr, firstNode, afterNode, settle, withHome, fromHome, namePlace, configOf, NodeWithin}
 use Rattle.config.specs.declared.Node.{Node}
 use Rattle.config.specs.declared.Node.the-variants as Node
-use Rattle.config.specs.declared.list.Run.{Run}
+use Rattle.config.specs.declared.list.Section.{Section}
 use Rattle.config.proofs.Texts.{at-end, not-end}
 
 -- `node` at a place
@@ -57,20 +57,20 @@ module _ (l : List ℕ) (at : ℕ) where
   no-node e k h = (sym (rw (h, k)), rw (h, k))
 
 -- what follows `home`
-module _ (l : List ℕ) (h : Plmn) (n : Node) (es : List Entry) (s : ℕ) (from : es ≡ entriesFrom l s) (P : Run) (p : RunIs false l s P) where
-  bad-plmns′ : accepted (map plmnIn (run (asListed false) es)) ≡ P .ok
-  bad-plmns′ = ap (λ (x : List Entry). accepted (map plmnIn (run (asListed false) x))) from ∙ sym (p .ok-is)
+module _ (l : List ℕ) (h : Plmn) (n : Node) (es : List Entry) (s : ℕ) (from : es ≡ entriesFrom l s) (P : Section) (p : SectionIs false l s P) where
+  bad-plmns′ : accepted (map plmnIn (section (asListed false) es)) ≡ P .ok
+  bad-plmns′ = ap (λ (x : List Entry). accepted (map plmnIn (section (asListed false) x))) from ∙ sym (p .ok-is)
 
   pub bad-plmns : P .ok ≡ false → none ≡ settle h n es
   unfolding settle
   bad-plmns e = sym (rw (bad-plmns′ ∙ e))
 
-  module _ (ok : P .ok ≡ true) (Q : Run) (q : RunIs true l (P .next) Q) where
+  module _ (ok : P .ok ≡ true) (Q : Section) (q : SectionIs true l (P .next) Q) where
     behind : rest (asListed false) es ≡ entriesFrom l (P .next)
     behind = ap (rest (asListed false)) from ∙ p .rest-is ok
 
-    bars-are : accepted (map plmnIn (run (asListed true) (rest (asListed false) es))) ≡ Q .ok
-    bars-are = ap (λ (x : List Entry). accepted (map plmnIn (run (asListed true) x))) behind ∙ sym (q .ok-is)
+    bars-are : accepted (map plmnIn (section (asListed true) (rest (asListed false) es))) ≡ Q .ok
+    bars-are = ap (λ (x : List Entry). accepted (map plmnIn (section (asListed true) x))) behind ∙ sym (q .ok-is)
 
     pub bad-bars : Q .ok ≡ false → none ≡ settle h n es
     unfolding settle
@@ -89,17 +89,17 @@ module _ (l : List ℕ) (h : Plmn) (n : Node) (es : List Entry) (s : ℕ) (from 
       unfolding settle isEnd ends
       finished e =
           let done : isEnd (rest (asListed true) (rest (asListed false) es)) ≡ true = ap isEnd (last ∙ at-end l (Q .next) e .0) in
-          let plmns-are : run (asListed false) es ≡ take (P .count) (P .list) = ap (run (asListed false)) from ∙ p .list-is ok in
-          let bars-listed : run (asListed true) (rest (asListed false) es) ≡ take (Q .count) (Q .list) = ap (run (asListed true)) behind ∙ q .list-is ok₂ in
+          let plmns-are : section (asListed false) es ≡ take (P .count) (P .list) = ap (section (asListed false)) from ∙ p .list-is ok in
+          let bars-listed : section (asListed true) (rest (asListed false) es) ≡ take (Q .count) (Q .list) = ap (section (asListed true)) behind ∙ q .list-is ok₂ in
           sym (rw (bad-plmns′ ∙ ok, bars-are ∙ ok₂, done, plmns-are, bars-listed))
 
 -- the whole text
 module _ (l : List ℕ) where
-  pub with-home : (e : Entry) (next : ℕ) → entriesFrom l 0 ≡ e ∷ entriesFrom l next → next ≡ newline l 0 + 1
+  pub with-home : (e : Entry) (next : ℕ) → entriesFrom l 0 ≡ e ∷ entriesFrom l next → next ≡ lineEnd l 0 + 1
       → withHome (asHome e) (next + 10) (entriesFrom l next) ≡ configOf l
   unfolding configOf fromHome namePlace
   with-home e next h k =
-      let place : next + 10 ≡ newline l 0 + 11 = omega arith in
+      let place : next + 10 ≡ lineEnd l 0 + 11 = omega arith in
       sym (rw h (ap (λ (m : ℕ). withHome (asHome e) m (entriesFrom l next)) (sym place)))
 
   pub no-home : (e : Entry) → asHome e ≡ none → entriesFrom l 0 ≡ e ∷ [] → none ≡ configOf l

@@ -9,15 +9,15 @@ use Rattle.entry.specs.declared.Entry.{Entry}
 use Rattle.entry.specs.declared.Entry.the-variants.{Home, Name, Preference, Bar, End, Bad}
 use Rattle.entry.specs.declared.Entry.the-variants as Entry
 use Rattle.entry.specs.declared.field.Preferred.{Preferred}
-use Rattle.config.specs.Lines.{entriesFrom, newline}
-use Rattle.config.specs.Settings.{accepted, afterNode, asListed, firstNode, plmnIn, rest, run, NodeWithin, Within}
+use Rattle.config.specs.Lines.{entriesFrom, lineEnd}
+use Rattle.config.specs.Settings.{accepted, afterNode, asListed, firstNode, plmnIn, rest, section, NodeWithin, Within}
 use Rattle.config.specs.declared.Config.{Config}
 use Rattle.config.specs.declared.Node.{Node}
-use Rattle.config.specs.declared.line.Line.{Line}
-use Rattle.config.specs.declared.line.Line.the-variants.{Whole, Last, Broken}
+use Rattle.config.specs.declared.line.TextLine.{TextLine}
+use Rattle.config.specs.declared.line.TextLine.the-variants.{Whole, Last, Broken}
 use Rattle.config.specs.declared.list.Listed.{Listed}
 use Rattle.config.specs.declared.list.Listed.the-variants.{Is, Not}
-use Rattle.config.specs.declared.list.Run.{Run}
+use Rattle.config.specs.declared.list.Section.{Section}
 use Rattle.config.specs.declared.parse.Noded.{Noded}
 
 -- the name of a line that begins at a place stands ten octets behind it and ends before the newline
@@ -31,18 +31,18 @@ NameEnds at End next = Unit {0}
 NameEnds at Bad next = Unit {0}
 
 -- what the code's answer says of the line at a place
-abbrev pub LineIs : List ℕ → ℕ → Line → Type 0
+abbrev pub LineIs : List ℕ → ℕ → TextLine → Type 0
 LineIs text at (Whole e next) =
-    (entriesFrom text at ≡ e ∷ entriesFrom text next) × (at < next) × (next ≤ length text) × (next ≡ newline text at + 1) × NameEnds at e next
+    (entriesFrom text at ≡ e ∷ entriesFrom text next) × (at < next) × (next ≤ length text) × (next ≡ lineEnd text at + 1) × NameEnds at e next
 LineIs text at Last = (entriesFrom text at ≡ End ∷ []) × (at ≡ length text)
 LineIs text at Broken = entriesFrom text at ≡ Bad ∷ []
 
 -- what the code's answer says of the listed entries from a place on
 abbrev pub ListedIs : Bool → List ℕ → ℕ → Listed → Type 0
 ListedIs bars text at (Is p next) =
-    (run (asListed bars) (entriesFrom text at) ≡ p ∷ run (asListed bars) (entriesFrom text next))
+    (section (asListed bars) (entriesFrom text at) ≡ p ∷ section (asListed bars) (entriesFrom text next))
     × (rest (asListed bars) (entriesFrom text at) ≡ rest (asListed bars) (entriesFrom text next)) × (at < next) × (next ≤ length text)
-ListedIs bars text at Not = (run (asListed bars) (entriesFrom text at) ≡ []) × (rest (asListed bars) (entriesFrom text at) ≡ entriesFrom text at)
+ListedIs bars text at Not = (section (asListed bars) (entriesFrom text at) ≡ []) × (rest (asListed bars) (entriesFrom text at) ≡ entriesFrom text at)
 
 -- the entry that an answer holds, and that its next place is the one handed in
 unfoldable pub listedOf : Listed → Option Preferred
@@ -54,9 +54,9 @@ nextOf (Is p to) next = to ≡ next
 nextOf Not next = Unit {0}
 
 -- what the code's answer says of the entries of one kind from a place on
-pub record RunIs (bars : Bool) (text : List ℕ) (at : ℕ) (r : Run) : Type 0 where
-  pub ok-is : r .ok ≡ accepted (map plmnIn (run (asListed bars) (entriesFrom text at)))
-  pub list-is : r .ok ≡ true → run (asListed bars) (entriesFrom text at) ≡ take (r .count) (r .list)
+pub record SectionIs (bars : Bool) (text : List ℕ) (at : ℕ) (r : Section) : Type 0 where
+  pub ok-is : r .ok ≡ accepted (map plmnIn (section (asListed bars) (entriesFrom text at)))
+  pub list-is : r .ok ≡ true → section (asListed bars) (entriesFrom text at) ≡ take (r .count) (r .list)
   pub rest-is : r .ok ≡ true → rest (asListed bars) (entriesFrom text at) ≡ entriesFrom text (r .next)
   pub count-within : r .count ≤ 16
   pub next-within : r .next ≤ length text

@@ -2,7 +2,7 @@
 use Prim.Native.Nat.{ℕ, _+_, _-_}
 use mathlib.Core.List.{List, [], _∷_}
 use lib.ListN.{length, drop}
-use Rattle.octets.specs.Part.{holds}
+use Rattle.octets.specs.Part.{octetIs}
 use Rattle.octets.specs.Search.{least}
 use Rattle.entry.specs.Entry.{lineEntry}
 use Rattle.entry.specs.Pieces.{pieces}
@@ -25,5 +25,5 @@ unfoldable pub entriesFrom : List ℕ → ℕ → List Entry
 entriesFrom text at = entries (pieces 10 (drop at text))
 
 -- where the first newline from a place on stands, or the length
-unfoldable pub newline : List ℕ → ℕ → ℕ
-newline text at = at + least (length text - at) (holds text at 10)
+unfoldable pub lineEnd : List ℕ → ℕ → ℕ
+lineEnd text at = at + least (length text - at) (octetIs text at 10)

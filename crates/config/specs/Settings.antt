@@ -12,7 +12,7 @@ use Rattle.entry.specs.declared.Entry.{Entry}
 use Rattle.entry.specs.declared.Entry.the-variants.{Home, Name, Preference, Bar, End, Bad}
 use Rattle.entry.specs.declared.Entry.the-variants as Entry
 use Rattle.entry.specs.declared.field.Preferred.{Preferred}
-use Rattle.config.specs.Lines.{entriesFrom, newline}
+use Rattle.config.specs.Lines.{entriesFrom, lineEnd}
 use Rattle.config.specs.declared.Config.{Config}
 use Rattle.config.specs.declared.Node.{Node}
 use Rattle.config.specs.declared.Parsed.{Parsed}
@@ -80,9 +80,9 @@ module _ {A : Type 0} where
   taken none xs = []
   taken (some a) xs = a ∷ xs
 
-  unfoldable pub run : (Entry → Option A) → List Entry → List A
-  run kind [] = []
-  run kind (e ∷ es) = taken (kind e) (run kind es)
+  unfoldable pub section : (Entry → Option A) → List Entry → List A
+  section kind [] = []
+  section kind (e ∷ es) = taken (kind e) (section kind es)
 
   unfoldable pub left : Option A → List Entry → List Entry → List Entry
   left none all after = all
@@ -123,8 +123,8 @@ afterNode at (e ∷ es) = left (asNode at e) (e ∷ es) es
 -- at most 16 `plmn` and 16 `bar` entries, no PLMN twice within either, and then the end
 unfoldable pub settle : Plmn → Node → List Entry → Option Settings
 settle h n es =
-    let ps = run (asListed false) es in
-    let bs = run (asListed true) (rest (asListed false) es) in
+    let ps = section (asListed false) es in
+    let bs = section (asListed true) (rest (asListed false) es) in
     cond (accepted (map plmnIn ps) && accepted (map plmnIn bs) && isEnd (rest (asListed true) (rest (asListed false) es)))
     (some (record { home = h; node = n; plmns = ps; bars = map plmnIn bs })) none
 
@@ -139,7 +139,7 @@ fromHome at (e ∷ es) = withHome (asHome e) at es
 
 -- a node name stands on the second line, behind `node`, `name` and two tabs
 unfoldable pub namePlace : List ℕ → ℕ
-namePlace text = newline text 0 + 11
+namePlace text = lineEnd text 0 + 11
 
 -- what a configuration text says, where it is well formed
 unfoldable pub configOf : List ℕ → Option Settings

@@ -8,7 +8,7 @@ ghost use lib.ListN.{length};
 ghost use Rattle.config.specs.Branch.{LineIs};
 
 // What stands at a place where a line may begin.
-pub(crate) enum Line {
+pub(crate) enum TextLine {
     // An entry, and where the next line begins.
     Whole(Entry, usize),
     // The end of the text.
@@ -18,18 +18,18 @@ pub(crate) enum Line {
 }
 
 // The line that begins at a place.
-pub(crate) fn line_at(text: &[u8], at: usize) -> Line
+pub(crate) fn line_at(text: &[u8], at: usize) -> TextLine
     requires { ⌜ at ≤ length (now text) ⌝ }
     ensures { λ r. ⌜ LineIs (now (text .entry)) at r ⌝ }
 {
     let n = text.len();
     if at == n {
-        return Line::Last;
+        return TextLine::Last;
     }
     let end = find(text, at, n, 10);
     if end == n {
-        return Line::Broken;
+        return TextLine::Broken;
     }
     let line = part(text, at, end - at);
-    Line::Whole(of_line(line), end + 1)
+    TextLine::Whole(of_line(line), end + 1)
 }

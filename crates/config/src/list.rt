@@ -1,5 +1,5 @@
 // Lists of PLMNs in the configuration text.
-use crate::line::Line;
+use crate::line::TextLine;
 use crate::line::line_at;
 use entry::Entry;
 use entry::field::Preferred;
@@ -11,7 +11,7 @@ ghost use mathlib.Core.List.{map};
 ghost use Prim.Native.Nat.{_≤_};
 ghost use lib.ListN.{length, take};
 ghost use Rattle.network.specs.Plmn.{among};
-ghost use Rattle.config.specs.Branch.{listedOf, ListedIs, RunIs, nextOf};
+ghost use Rattle.config.specs.Branch.{listedOf, ListedIs, SectionIs, nextOf};
 ghost use Rattle.config.specs.Settings.{asListed, plmnIn};
 
 // What stands at a place where a listed entry may begin.
@@ -78,14 +78,14 @@ fn listed_at(text: &[u8], at: usize, bars: bool) -> Listed
     ensures { λ r. ⌜ ListedIs bars (now (text .entry)) at r ⌝ }
 {
     match line_at(text, at) {
-        Line::Whole(e, next) => of_kind(e, bars, next),
-        Line::Last => Listed::Not,
-        Line::Broken => Listed::Not,
+        TextLine::Whole(e, next) => of_kind(e, bars, next),
+        TextLine::Last => Listed::Not,
+        TextLine::Broken => Listed::Not,
     }
 }
 
 // The entries of one kind from a place on: those below the count, and where the next line begins.
-pub(crate) struct Run {
+pub(crate) struct Section {
     pub ok: bool,
     pub list: [Preferred; 16],
     pub count: usize,
@@ -93,10 +93,10 @@ pub(crate) struct Run {
 }
 
 // No entry, where there are too many or a PLMN stands twice.
-fn refused() -> Run
+fn refused() -> Section
     ensures { λ r. ⌜ (r .ok ≡ false) × (r .count ≡ 0) × (r .next ≡ 0) ⌝ }
 {
-    Run {
+    Section {
         ok: false,
         list: [Preferred {
             plmn: Plmn { mcc: 0, mnc: 0 },
@@ -108,9 +108,9 @@ fn refused() -> Run
 }
 
 // Collects the entries of one kind that follow one another, where there are at most 16 and no PLMN stands twice.
-pub(crate) fn collect(text: &[u8], start: usize, bars: bool) -> Run
+pub(crate) fn collect(text: &[u8], start: usize, bars: bool) -> Section
     requires { ⌜ start ≤ length (now text) ⌝ }
-    ensures { λ r. ⌜ RunIs bars (now (text .entry)) start r ⌝ }
+    ensures { λ r. ⌜ SectionIs bars (now (text .entry)) start r ⌝ }
 {
     let none = Preferred {
         plmn: Plmn { mcc: 0, mnc: 0 },
@@ -121,7 +121,7 @@ pub(crate) fn collect(text: &[u8], start: usize, bars: bool) -> Run
     let mut at = start;
     loop {
         let Listed::Is(p, next) = listed_at(text, at, bars) else {
-            return Run {
+            return Section {
                 ok: true,
                 list,
                 count,

@@ -2,7 +2,7 @@
 use crate::Config;
 use crate::Node;
 use crate::Parsed;
-use crate::line::Line;
+use crate::line::TextLine;
 use crate::line::line_at;
 use crate::list::collect;
 use entry::Entry;
@@ -70,12 +70,12 @@ fn node_at(text: &[u8], at: usize) -> Noded
     ensures { λ r. ⌜ NodedIs (now (text .entry)) at r ⌝ }
 {
     match line_at(text, at) {
-        Line::Whole(e, next) => node_of(e, at, next),
-        Line::Last => Noded {
+        TextLine::Whole(e, next) => node_of(e, at, next),
+        TextLine::Last => Noded {
             node: Node::None,
             next: at,
         },
-        Line::Broken => Noded {
+        TextLine::Broken => Noded {
             node: Node::None,
             next: at,
         },
@@ -172,8 +172,8 @@ pub fn parse(text: &[u8]) -> Parsed
     ensures { λ r. ⌜ Within (now (text .entry)) (r .config) ⌝ }
 {
     match line_at(text, 0) {
-        Line::Whole(e, next) => with_home(text, e, next),
-        Line::Last => ill_formed(),
-        Line::Broken => ill_formed(),
+        TextLine::Whole(e, next) => with_home(text, e, next),
+        TextLine::Last => ill_formed(),
+        TextLine::Broken => ill_formed(),
     }
 }

@@ -1,4 +1,3 @@
 -- What EAP-5G packets say.
 pub mod Packet
 pub mod Branch
-pub mod Examples

@@ -9,7 +9,7 @@ use native.Mathlib.Omega.{arith}
 use lib.Dec.{eqb}
 use lib.ListN.{length, drop}
 use borrow.Author.Tests.{eq-eqb, ne-eqb}
-use Rattle.octets.specs.Part.{part, same, holds}
+use Rattle.octets.specs.Part.{part, same, octetIs}
 use Rattle.octets.specs.Search.{least}
 use Rattle.octets.proofs.Parts.{length-part}
 use Rattle.text.specs.Text.{text, readDigits, numberRead}
@@ -136,7 +136,7 @@ some-piece x (c ∷ l) = go (eqb c x) (pieces x l)
     go false (q ∷ qs) = (c ∷ q, qs, refl)
 
 -- a line by the places of its tabs
-module _ (l : List ℕ) (a : ℕ) (within : a ≤ length l) (found : a ≡ 0 + least (length l - 0) (holds l 0 9)) where
+module _ (l : List ℕ) (a : ℕ) (within : a ≤ length l) (found : a ≡ 0 + least (length l - 0) (octetIs l 0 9)) where
   pub one-field : a ≡ length l → pieces 9 l ≡ part l 0 a ∷ []
   one-field e = whole l 9 0 a zero-le found e ∙ ap (λ (k : ℕ). part l 0 k ∷ []) (sub-zero a)
 
@@ -156,7 +156,7 @@ module _ (l : List ℕ) (a : ℕ) (within : a ≤ length l) (found : a ≡ 0 + l
       go [] q h = absurd (z (sym e ∙ sym q))
       go (x ∷ m) q h = rw h
 
-  module _ (tab : a ≡ length l → ⊥) (b : ℕ) (within-b : b ≤ length l) (after : a + 1 ≤ b) (found-b : b ≡ a + 1 + least (length l - (a + 1)) (holds l (a + 1) 9)) where
+  module _ (tab : a ≡ length l → ⊥) (b : ℕ) (within-b : b ≤ length l) (after : a + 1 ≤ b) (found-b : b ≡ a + 1 + least (length l - (a + 1)) (octetIs l (a + 1) 9)) where
     first : pieces 9 l ≡ part l 0 a ∷ pieces 9 (drop (a + 1) l)
     first = split l 9 0 a zero-le found tab ∙ ap (λ (k : ℕ). part l 0 k ∷ pieces 9 (drop (a + 1) l)) (sub-zero a)
 
@@ -164,7 +164,7 @@ module _ (l : List ℕ) (a : ℕ) (within : a ≤ length l) (found : a ≡ 0 + l
     unfolding lineEntry entryOf
     pair e = rw (first, whole l 9 (a + 1) b (omega arith) found-b e)
 
-    module _ (tab-b : b ≡ length l → ⊥) (c : ℕ) (within-c : c ≤ length l) (after-b : b + 1 ≤ c) (found-c : c ≡ b + 1 + least (length l - (b + 1)) (holds l (b + 1) 9)) where
+    module _ (tab-b : b ≡ length l → ⊥) (c : ℕ) (within-c : c ≤ length l) (after-b : b + 1 ≤ c) (found-c : c ≡ b + 1 + least (length l - (b + 1)) (octetIs l (b + 1) 9)) where
       second : pieces 9 l ≡ part l 0 a ∷ part l (a + 1) (b - a - 1) ∷ pieces 9 (drop (b + 1) l)
       second =
           let size : b - (a + 1) ≡ b - a - 1 = omega arith in
@@ -177,7 +177,7 @@ module _ (l : List ℕ) (a : ℕ) (within : a ≤ length l) (found : a ≡ 0 + l
           let size : c - (b + 1) ≡ c - b - 1 = omega arith in
           rw (second, whole l 9 (b + 1) c (omega arith) found-c e, size)
 
-      module _ (tab-c : c ≡ length l → ⊥) (d : ℕ) (found-d : d ≡ c + 1 + least (length l - (c + 1)) (holds l (c + 1) 9)) where
+      module _ (tab-c : c ≡ length l → ⊥) (d : ℕ) (found-d : d ≡ c + 1 + least (length l - (c + 1)) (octetIs l (c + 1) 9)) where
         third : pieces 9 l ≡ part l 0 a ∷ part l (a + 1) (b - a - 1) ∷ part l (b + 1) (c - b - 1) ∷ pieces 9 (drop (c + 1) l)
         third =
             let size : c - (b + 1) ≡ c - b - 1 = omega arith in

@@ -8,7 +8,7 @@ use native.Mathlib.Omega.{arith}
 use lib.Dec.{eqb}
 use lib.ListN.{length, getD, take, drop, length-drop}
 use lib.Seq.{getD-drop, drop-drop, take-all}
-use Rattle.octets.specs.Part.{part, holds}
+use Rattle.octets.specs.Part.{part, octetIs}
 use Rattle.octets.specs.Search.{least}
 use Rattle.octets.proofs.Search.{least-bound, least-passes, least-first}
 use Rattle.entry.specs.Pieces.{before, pieces}
@@ -27,25 +27,25 @@ piece-only x [] none = refl
 piece-only x (c ∷ l) none = rw (none 0 (zero-lt-suc (length l)), piece-only x l (λ j i. none (suc j) (suc-le-suc i)))
 
 -- r is the first place from p on that holds x, or the length
-module _ (l : List ℕ) (x p r : ℕ) (inside : p ≤ length l) (first : r ≡ p + least (length l - p) (holds l p x)) where
+module _ (l : List ℕ) (x p r : ℕ) (inside : p ≤ length l) (first : r ≡ p + least (length l - p) (octetIs l p x)) where
   abbrev n : ℕ
-  n = least (length l - p) (holds l p x)
+  n = least (length l - p) (octetIs l p x)
 
   -- no octet before r holds x
   passed : (j : ℕ) → j < n → eqb (getD (drop p l) j 0) x ≡ false
-  unfolding holds
-  passed j h = ap (λ (k : ℕ). eqb k x) (getD-drop p l j 0) ∙ least-first (length l - p) (holds l p x) j h
+  unfolding octetIs
+  passed j h = ap (λ (k : ℕ). eqb k x) (getD-drop p l j 0) ∙ least-first (length l - p) (octetIs l p x) j h
 
   -- a separator is found: the first piece ends there, and the others begin behind it
   pub split : (r ≡ length l → ⊥) → pieces x (drop p l) ≡ part l p (r - p) ∷ pieces x (drop (r + 1) l)
-  unfolding holds part
+  unfolding octetIs part
   split h =
-      let bound = least-bound (length l - p) (holds l p x) in
+      let bound = least-bound (length l - p) (octetIs l p x) in
       let more : n < length l - p = omega arith in
       let size : r - p ≡ n = omega arith in
       let next : p + suc n ≡ r + 1 = omega arith in
       piece-found x n (drop p l) passed (rw length-drop more)
-      (ap (λ (k : ℕ). eqb k x) (getD-drop p l n 0) ∙ least-passes (length l - p) (holds l p x) more)
+      (ap (λ (k : ℕ). eqb k x) (getD-drop p l n 0) ∙ least-passes (length l - p) (octetIs l p x) more)
       ∙ ap₂ (λ (k : ℕ) (m : List ℕ). take k (drop p l) ∷ pieces x m) (sym size) (drop-drop (suc n) p l ∙ ap (λ (k : ℕ). drop k l) next)
 
   -- none is found: what is left is one piece

@@ -1,3 +1,2 @@
 -- Choosing an address of the gateway.
 pub mod Gateway
-pub mod Examples

@@ -21,21 +21,21 @@ use Rattle.address.specs.declared.End.{End}
 use Rattle.address.specs.declared.End.the-variants.{At, Never}
 use Rattle.address.specs.declared.Hold.{Hold}
 use Rattle.addresses.specs.Addresses.{addressFrom, addressOctets, isAddress}
-use Rattle.addresses.specs.Laws.{addressHeld}
+use Rattle.addresses.specs.Laws.{addressStorable}
 use Rattle.addresses.proofs.RoundTrip as Addresses
 use Rattle.addresses.proofs.Widths.{address-wide}
 use Rattle.holds.specs.Holds.{endNumber, endOf, hasAddress, holdFrom, holdIn, holdOctets, holdsFrom, holdsOctets, holdsWritten}
-use Rattle.holds.specs.Laws.{endHeld, holdHeld}
+use Rattle.holds.specs.Laws.{endStorable, holdStorable}
 use Rattle.holds.proofs.Widths.{hold-wide}
 
 -- an end and its number say each other
-number-small : (e : End) → endHeld e ≡ true → endNumber e < 256 ^ 5
-unfolding endHeld endNumber
+number-small : (e : End) → endStorable e ≡ true → endNumber e < 256 ^ 5
+unfolding endStorable endNumber
 number-small (At t) h = ltb-true t (256 ^ 5) (and-right (ltb 0 t) (ltb t (256 ^ 5)) h)
 number-small Never h = omega arith
 
-end-back : (e : End) → endHeld e ≡ true → endOf (endNumber e) ≡ e
-unfolding endHeld endNumber endOf
+end-back : (e : End) → endStorable e ≡ true → endOf (endNumber e) ≡ e
+unfolding endStorable endNumber endOf
 end-back (At t) h =
     let after : 0 < t = ltb-true 0 t (and-left (ltb 0 t) (ltb t (256 ^ 5)) h) in
     rw (ne-eqb t 0 (λ z. omega arith))
@@ -45,19 +45,19 @@ end-number : (t : ℕ) → endNumber (endOf t) ≡ t
 unfolding endNumber endOf
 end-number t = either t 0 (λ e. rw e) (λ n. rw (ne-eqb t 0 n))
 
-end-held : (t : ℕ) → t < 256 ^ 5 → endHeld (endOf t) ≡ true
-unfolding endHeld endOf
-end-held t h = either t 0 (λ e. rw e) (λ n. rw (ne-eqb t 0 n) (and-true (ltb 0 t) (ltb t (256 ^ 5)) (lt-ltb 0 t (omega arith)) (lt-ltb t (256 ^ 5) h)))
+end-storable : (t : ℕ) → t < 256 ^ 5 → endStorable (endOf t) ≡ true
+unfolding endStorable endOf
+end-storable t h = either t 0 (λ e. rw e) (λ n. rw (ne-eqb t 0 n) (and-true (ltb 0 t) (ltb t (256 ^ 5)) (lt-ltb 0 t (omega arith)) (lt-ltb t (256 ^ 5) h)))
 
 -- one hold
 module _ (l : List ℕ) (at : ℕ) where
-  hold-back : (h : Hold) (r : List ℕ) → holdHeld h ≡ true → Stands l at (holdOctets h) r → (holdFrom l at ≡ h) × (isAddress l at ≡ true)
-  unfolding holdOctets holdFrom holdHeld
+  hold-back : (h : Hold) (r : List ℕ) → holdStorable h ≡ true → Stands l at (holdOctets h) r → (holdFrom l at ≡ h) × (isAddress l at ≡ true)
+  unfolding holdOctets holdFrom holdStorable
   hold-back h r k e =
       let a = h .address in
       let t = endNumber (h .end) in
-      let fits = and-right (addressHeld a) (endHeld (h .end)) k in
-      let address = Addresses.address-back l at a (and-left (addressHeld a) (endHeld (h .end)) k) (before (addressOctets a) (be 5 t) e) in
+      let fits = and-right (addressStorable a) (endStorable (h .end)) k in
+      let address = Addresses.address-back l at a (and-left (addressStorable a) (endStorable (h .end)) k) (before (addressOctets a) (be 5 t) e) in
       let end : field l (at + 17) 5 ≡ t = says 5 t (number-small (h .end) fits) (behind (addressOctets a) (be 5 t) 17 (address-wide a) e) in
       (rw (address .0, end, end-back (h .end) fits), address .1)
 
@@ -66,22 +66,22 @@ module _ (l : List ℕ) (at : ℕ) where
     unfolding holdOctets holdFrom
     hold-octets w = follow l at 17 5 (Addresses.address-octets l octets at (omega arith) w) (number-back l octets (at + 17) 5 _ (omega arith) (sym (end-number (field l (at + 17) 5))))
 
-    hold-held : holdHeld (holdFrom l at) ≡ true
-    unfolding holdHeld holdFrom
-    hold-held =
+    hold-storable : holdStorable (holdFrom l at) ≡ true
+    unfolding holdStorable holdFrom
+    hold-storable =
         let t = field l (at + 17) 5 in
-        and-true (addressHeld (addressFrom l at)) (endHeld (endOf t)) (Addresses.held l at octets (omega arith)) (end-held t (field-below l octets (at + 17) 5 (omega arith)))
+        and-true (addressStorable (addressFrom l at)) (endStorable (endOf t)) (Addresses.storable l at octets (omega arith)) (end-storable t (field-below l octets (at + 17) 5 (omega arith)))
 
 -- the holds of a line
 pub octet-count : (hs : List Hold) → length hs ≤ 8 → length (holdsOctets hs) ≡ 176
 unfolding holdsOctets
 octet-count hs few = padded-count holdOctets 22 hold-wide 176 8 refl hs few
 
-pub read-back : (l : List ℕ) (at : ℕ) (hs : List Hold) → length hs ≤ 8 → allOf holdHeld hs ≡ true → part l at 176 ≡ holdsOctets hs
+pub read-back : (l : List ℕ) (at : ℕ) (hs : List Hold) → length hs ≤ 8 → allOf holdStorable hs ≡ true → part l at 176 ≡ holdsOctets hs
     → (holdsFrom l at (length hs) ≡ hs) × (holdsWritten l at (length hs) ≡ true)
 unfolding holdsFrom holdsOctets holdsWritten holdIn hasAddress
 read-back l at hs few h e =
-    let back = padded-back holdOctets 22 hold-wide l at holdHeld (holdIn l at) (hasAddress l at) (λ i x r. hold-back l (at + 22 * i) x r) 176 hs h e in
+    let back = padded-back holdOctets 22 hold-wide l at holdStorable (holdIn l at) (hasAddress l at) (λ i x r. hold-back l (at + 22 * i) x r) 176 hs h e in
     (back .0, rw (le-leb (length hs) 8 few, back .1, back .2))
 
 pub write-back : (l : List ℕ) (at n : ℕ) → allOf (below 256) l ≡ true → at + 176 ≤ length l → holdsWritten l at n ≡ true
@@ -94,9 +94,9 @@ write-back l at n octets fits w =
     let each = all-each n (hasAddress l at) (and-right (leb n 8) (all n (hasAddress l at)) (and-left counted none w)) in
     sym (padded-octets holdOctets 22 hold-wide l at (holdIn l at) 176 n (omega arith) (λ k h. hold-octets l (at + 22 * k) octets (omega arith) (each k h)) (and-right counted none w))
 
-pub held : (l : List ℕ) (at n : ℕ) → allOf (below 256) l ≡ true → at + 22 * n ≤ length l → allOf holdHeld (holdsFrom l at n) ≡ true
+pub storable : (l : List ℕ) (at n : ℕ) → allOf (below 256) l ≡ true → at + 22 * n ≤ length l → allOf holdStorable (holdsFrom l at n) ≡ true
 unfolding holdsFrom holdIn
-held l at n octets fits = row-passes (holdIn l at) holdHeld 0 n (λ k h. hold-held l (at + 22 * k) octets (omega arith))
+storable l at n octets fits = row-passes (holdIn l at) holdStorable 0 n (λ k h. hold-storable l (at + 22 * k) octets (omega arith))
 
 -- every octet of the holds is one
 pub octets : (hs : List Hold) → Octets (holdsOctets hs)

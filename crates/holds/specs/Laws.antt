@@ -11,26 +11,26 @@ use Rattle.octets.specs.Search.{allOf}
 use Rattle.address.specs.declared.End.{End}
 use Rattle.address.specs.declared.End.the-variants.{At, Never}
 use Rattle.address.specs.declared.Hold.{Hold}
-use Rattle.addresses.specs.Laws.{addressHeld}
+use Rattle.addresses.specs.Laws.{addressStorable}
 use Rattle.holds.specs.Holds.{holdsFrom, holdsOctets, holdsWritten}
 
 -- an end that is not the number of none and fits 5 octets
-unfoldable pub endHeld : End → Bool
-endHeld (At t) = ltb 0 t && ltb t (256 ^ 5)
-endHeld Never = true
+unfoldable pub endStorable : End → Bool
+endStorable (At t) = ltb 0 t && ltb t (256 ^ 5)
+endStorable Never = true
 
 -- a hold whose address and end fit their octets
-unfoldable pub holdHeld : Hold → Bool
-holdHeld h = addressHeld (h .address) && endHeld (h .end)
+unfoldable pub holdStorable : Hold → Bool
+holdStorable h = addressStorable (h .address) && endStorable (h .end)
 
 pub record Laws : Type 0 where
   -- at most 8 holds have 176 octets with the zeros behind them
   pub octet-count : (hs : List Hold) → length hs ≤ 8 → length (holdsOctets hs) ≡ 176
   -- at most 8 holds in range are read back from their octets
-  pub read-back : (l : List ℕ) (at : ℕ) (hs : List Hold) → length hs ≤ 8 → allOf holdHeld hs ≡ true → part l at 176 ≡ holdsOctets hs
+  pub read-back : (l : List ℕ) (at : ℕ) (hs : List Hold) → length hs ≤ 8 → allOf holdStorable hs ≡ true → part l at 176 ≡ holdsOctets hs
       → (holdsFrom l at (length hs) ≡ hs) × (holdsWritten l at (length hs) ≡ true)
   -- holds are written back as the octets that they were read from
   pub write-back : (l : List ℕ) (at n : ℕ) → allOf (below 256) l ≡ true → at + 176 ≤ length l → holdsWritten l at n ≡ true
       → part l at 176 ≡ holdsOctets (holdsFrom l at n)
   -- holds that are read from octets are in range
-  pub held : (l : List ℕ) (at n : ℕ) → allOf (below 256) l ≡ true → at + 22 * n ≤ length l → allOf holdHeld (holdsFrom l at n) ≡ true
+  pub storable : (l : List ℕ) (at n : ℕ) → allOf (below 256) l ≡ true → at + 22 * n ≤ length l → allOf holdStorable (holdsFrom l at n) ≡ true

@@ -16,7 +16,7 @@ ghost use lib.ListN.{length, take};
 ghost use Rattle.octets.specs.Part.{Wrote};
 ghost use Rattle.octets.specs.Row.{joined};
 ghost use Rattle.octets.specs.Search.{allOf};
-ghost use Rattle.address.specs.Address.{heldIn};
+ghost use Rattle.address.specs.Address.{heldAddresses};
 ghost use Rattle.holds.specs.Holds.{different, endAfter, endNumber, endOf, endsAfter, holdFrom, holdOctets, holdsFrom, holdsWritten};
 ghost use Rattle.holds.specs.Laws.{Laws};
 
@@ -113,7 +113,7 @@ pub fn are_written(b: &[u8], at: usize, n: usize) -> bool
 // Whether the first n holds are for different addresses.
 pub fn are_different(list: [Hold; HOLDS], n: usize) -> bool
     requires { ⌜ n ≤ 8 ⌝ }
-    ensures { λ r. ⌜ r ≡ different (heldIn list n) ⌝ }
+    ensures { λ r. ⌜ r ≡ different (heldAddresses (take n list)) ⌝ }
 {
     let mut i = 0;
     while i < n {

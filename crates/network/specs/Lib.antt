@@ -2,4 +2,3 @@
 pub mod Plmn
 pub mod Name
 pub mod Laws
-pub mod Examples

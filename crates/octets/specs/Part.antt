@@ -31,8 +31,8 @@ unfoldable pub zerosAt : List ℕ → ℕ → ℕ → Bool
 zerosAt l at n = same (part l at n) (zeros n)
 
 -- the octet k places on from a place is x
-unfoldable pub holds : List ℕ → ℕ → ℕ → ℕ → Bool
-holds l from x k = eqb (getD l (from + k) 0) x
+unfoldable pub octetIs : List ℕ → ℕ → ℕ → ℕ → Bool
+octetIs l from x k = eqb (getD l (from + k) 0) x
 
 -- m is l with vs spliced in: stored over its octets one after another from a place
 pub record Wrote (l : List ℕ) (at : ℕ) (vs m : List ℕ) : Type 0 where

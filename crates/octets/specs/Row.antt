@@ -34,3 +34,8 @@ module _ {A : Type 0} where
   unfoldable pub only : (A → Bool) → List A → List A
   only p [] = []
   only p (x ∷ xs) = keep (p x) x (only p xs)
+
+  -- there is a value
+  unfoldable pub isSome : Option A → Bool
+  isSome none = false
+  isSome (some x) = true

@@ -2,7 +2,7 @@
 ghost use mathlib.Core.Path.{_≡_};
 ghost use Prim.Native.Nat.{_+_, _-_, _≤_};
 ghost use lib.ListN.{length};
-ghost use Rattle.octets.specs.Part.{holds, part, same, zeros, zerosAt, Wrote};
+ghost use Rattle.octets.specs.Part.{octetIs, part, same, zeros, zerosAt, Wrote};
 ghost use Rattle.octets.specs.Search.{least};
 
 // Fills a slice with zeros.
@@ -72,7 +72,7 @@ pub fn part(s: &[u8], at: usize, n: usize) -> &[u8]
 // The first place from `from` on that holds x, or `to` where none before it does.
 pub fn find(s: &[u8], from: usize, to: usize, x: u8) -> usize
     requires { ⌜ (from ≤ to) × (to ≤ length (now s)) ⌝ }
-    ensures { λ r. ⌜ (r ≡ from + least (to - from) (holds (now (s .entry)) from x)) × (from ≤ r) × (r ≤ to) ⌝ }
+    ensures { λ r. ⌜ (r ≡ from + least (to - from) (octetIs (now (s .entry)) from x)) × (from ≤ r) × (r ≤ to) ⌝ }
 {
     let mut i = from;
     while i < to {

@@ -19,15 +19,15 @@ use Rattle.network.specs.declared.MaybePlmn.{MaybePlmn}
 use Rattle.network.specs.declared.MaybePlmn.the-variants.{Is, None}
 use Rattle.address.specs.declared.Address.{Address}
 use Rattle.addresses.specs.Addresses.{addressOctets, addressFrom, isAddress}
-use Rattle.addresses.specs.Laws.{addressHeld}
+use Rattle.addresses.specs.Laws.{addressStorable}
 use Rattle.addresses.proofs.RoundTrip as Addresses
 use Rattle.addresses.proofs.Widths.{address-wide}
 use Rattle.place.specs.declared.Facts.{Facts}
 use Rattle.place.specs.declared.Place.{Place}
 use Rattle.place.specs.declared.Place.the-variants.{Unknown, Home, Abroad}
 use Rattle.phase.specs.Facts.{placeOctets, placeFrom, placeFits, placeWritten, registeredOctets, registeredFrom, registeredFits, registeredWritten, factsOctets, factsFrom, factsFit, factsWritten}
-use Rattle.phase.specs.Laws.{turnHeld, phaseHeld}
-use Rattle.phase.specs.Phase.{asking, having, isAbroad, phaseFits, phaseFrom, phaseOctets, phaseWritten, turnFrom, turnOctets, turnWritten}
+use Rattle.phase.specs.Laws.{turnStorable, phaseStorable}
+use Rattle.phase.specs.Phase.{askingOctets, havingOctets, isAbroad, phaseFits, phaseFrom, phaseOctets, phaseWritten, turnFrom, turnOctets, turnWritten}
 use Rattle.phase.specs.declared.Phase.{Phase}
 use Rattle.phase.specs.declared.Phase.the-variants.{Idle, Country, Name, Chosen, Init, Auth, Eap, Sure, Live}
 use Rattle.phase.specs.declared.Turn.{Turn}
@@ -79,8 +79,8 @@ module _ (l : List ℕ) (at : ℕ) {r : List ℕ} where
       let small : i < 256 = ltb-true i 256 h in
       (says 1 n (omega arith) (before (be 1 n) (be 1 i) e), says 1 i (omega arith) (behind (be 1 n) (be 1 i) 1 refl e))
 
-  turn-back : (t : Turn) → turnHeld t ≡ true → Stands l at (turnOctets t) r → (turnFrom l at ≡ t) × (turnWritten l at ≡ true)
-  unfolding turnOctets turnFrom turnHeld turnWritten
+  turn-back : (t : Turn) → turnStorable t ≡ true → Stands l at (turnOctets t) r → (turnFrom l at ≡ t) × (turnWritten l at ≡ true)
+  unfolding turnOctets turnFrom turnStorable turnWritten
   turn-back (First i) h e = let f = two-octets 1 i (omega arith) h e in (rw (f .0, f .1), rw (f .0))
   turn-back (Owed i) h e = let f = two-octets 2 i (omega arith) h e in (rw (f .0, f .1), rw (f .0))
   turn-back (Answered i) h e = let f = two-octets 3 i (omega arith) h e in (rw (f .0, f .1), rw (f .0))
@@ -106,16 +106,16 @@ module _ (l : List ℕ) (at : ℕ) {r : List ℕ} where
 
 -- what stands in the octets of a phase, by its number
 module _ (l : List ℕ) (at : ℕ) {r : List ℕ} (n : ℕ) (octet : n < 256) where
-  asking-back : (f : Facts) → factsFit f ≡ true → Stands l at (asking n f) r
+  asking-back : (f : Facts) → factsFit f ≡ true → Stands l at (askingOctets n f) r
       → (field l at 1 ≡ n) × (factsFrom l (at + 1) ≡ f) × (factsWritten l (at + 1) ≡ true) × (zerosAt l (at + 10) 10 ≡ true)
-  unfolding asking be digits
+  unfolding askingOctets be digits
   asking-back f h e =
       let two = before (be 1 n ++ factsOctets f) (zeros 10) e in
       let facts = facts-back l (at + 1) f h (behind (be 1 n) (factsOctets f) 1 refl two) in
       let none = zeros-stand 10 (behind (be 1 n ++ factsOctets f) (zeros 10) 10 (both (be 1 n) (factsOctets f) 1 9 refl (facts-length f)) e) in
       (says 1 n (omega arith) (before (be 1 n) (factsOctets f) two), facts .0, facts .1, none)
 
-  having-back : (a : Address) → addressHeld a ≡ true → (b : List ℕ) → Stands l at (be 1 n ++ addressOctets a ++ b) r
+  having-back : (a : Address) → addressStorable a ≡ true → (b : List ℕ) → Stands l at (be 1 n ++ addressOctets a ++ b) r
       → (field l at 1 ≡ n) × (addressFrom l (at + 1) ≡ a) × (isAddress l (at + 1) ≡ true) × Stands l (at + 18) b r
   unfolding be digits
   having-back a h b e =
@@ -125,9 +125,9 @@ module _ (l : List ℕ) (at : ℕ) {r : List ℕ} (n : ℕ) (octet : n < 256) wh
       (says 1 n (omega arith) (before (be 1 n) (addressOctets a) two), address .0, address .1, rest)
 
   -- a phase that keeps an address alone
-  alone-back : (a : Address) → addressHeld a ≡ true → Stands l at (having n a) r
+  alone-back : (a : Address) → addressStorable a ≡ true → Stands l at (havingOctets n a) r
       → (field l at 1 ≡ n) × (addressFrom l (at + 1) ≡ a) × (isAddress l (at + 1) ≡ true) × (zerosAt l (at + 18) 2 ≡ true)
-  unfolding having
+  unfolding havingOctets
   alone-back a h e =
       let f = having-back a h (zeros 2) e in
       (f .0, f .1, f .2, zeros-stand 2 (f .3))
@@ -140,8 +140,8 @@ module _ (l : List ℕ) (at : ℕ) where
       let none : zerosAt l (at + 1) 19 ≡ true = zeros-stand 19 (behind (be 1 0) (zeros 19) 1 refl e) in
       (rw number, rw (number, none))
 
-  phase-back : {r : List ℕ} (p : Phase) → phaseFits p ≡ true → phaseHeld p ≡ true → Stands l at (phaseOctets p) r → (phaseFrom l at ≡ p) × (phaseWritten l at ≡ true)
-  unfolding phaseOctets phaseFits phaseFrom phaseHeld phaseWritten
+  phase-back : {r : List ℕ} (p : Phase) → phaseFits p ≡ true → phaseStorable p ≡ true → Stands l at (phaseOctets p) r → (phaseFrom l at ≡ p) × (phaseWritten l at ≡ true)
+  unfolding phaseOctets phaseFits phaseFrom phaseStorable phaseWritten
   phase-back Idle g h e = idle-back e
   phase-back (Country f) g h e = let b = asking-back l at 1 (omega arith) f (and-left (factsFit f) (isAbroad (f .place)) g) e in (rw (b .0, b .1), rw (b .0, b .2, b .3))
   phase-back (Name f) g h e = let b = asking-back l at 2 (omega arith) f g e in (rw (b .0, b .1), rw (b .0, b .2, b .3))
@@ -149,37 +149,37 @@ module _ (l : List ℕ) (at : ℕ) where
   phase-back (Init a) g h e = let b = alone-back l at 4 (omega arith) a h e in (rw (b .0, b .1), rw (b .0, b .2, b .3))
   phase-back (Auth a) g h e = let b = alone-back l at 5 (omega arith) a h e in (rw (b .0, b .1), rw (b .0, b .2, b .3))
   phase-back (Eap a t) g h e =
-      let b = having-back l at 6 (omega arith) a (and-left (addressHeld a) (turnHeld t) h) (turnOctets t) e in
-      let turn = turn-back l (at + 18) t (and-right (addressHeld a) (turnHeld t) h) (b .3) in
+      let b = having-back l at 6 (omega arith) a (and-left (addressStorable a) (turnStorable t) h) (turnOctets t) e in
+      let turn = turn-back l (at + 18) t (and-right (addressStorable a) (turnStorable t) h) (b .3) in
       (rw (b .0, b .1, turn .0), rw (b .0, b .2, turn .1))
   phase-back (Sure a) g h e = let b = alone-back l at 7 (omega arith) a h e in (rw (b .0, b .1), rw (b .0, b .2, b .3))
   phase-back (Live a) g h e = let b = alone-back l at 8 (omega arith) a h e in (rw (b .0, b .1), rw (b .0, b .2, b .3))
 
-pub read-back : (l : List ℕ) (at : ℕ) (p : Phase) → phaseFits p ≡ true → phaseHeld p ≡ true → part l at 20 ≡ phaseOctets p
+pub read-back : (l : List ℕ) (at : ℕ) (p : Phase) → phaseFits p ≡ true → phaseStorable p ≡ true → part l at 20 ≡ phaseOctets p
     → (phaseFrom l at ≡ p) × (phaseWritten l at ≡ true)
 read-back l at p g h e = phase-back l at p g h (from-part l at 20 (phaseOctets p) e)
 
 -- what is read from octets fits them
-turn-held : (l : List ℕ) (at : ℕ) → allOf (below 256) l ≡ true → at + 2 ≤ length l → turnHeld (turnFrom l at) ≡ true
-unfolding turnFrom turnHeld
-turn-held l at octets fits =
+turn-storable : (l : List ℕ) (at : ℕ) → allOf (below 256) l ≡ true → at + 2 ≤ length l → turnStorable (turnFrom l at) ≡ true
+unfolding turnFrom turnStorable
+turn-storable l at octets fits =
     let i = field l (at + 1) 1 in
     let small : ltb i 256 ≡ true = lt-ltb i 256 (field-below l octets (at + 1) 1 (omega arith)) in
-    cond-passes turnHeld (eqb (field l at 1) 1) (First i) _ small (cond-passes turnHeld (eqb (field l at 1) 2) (Owed i) (Answered i) small small)
+    cond-passes turnStorable (eqb (field l at 1) 1) (First i) _ small (cond-passes turnStorable (eqb (field l at 1) 2) (Owed i) (Answered i) small small)
 
-pub held : (l : List ℕ) (at : ℕ) → allOf (below 256) l ≡ true → at + 20 ≤ length l → phaseHeld (phaseFrom l at) ≡ true
-unfolding phaseFrom phaseHeld
-held l at octets fits =
+pub storable : (l : List ℕ) (at : ℕ) → allOf (below 256) l ≡ true → at + 20 ≤ length l → phaseStorable (phaseFrom l at) ≡ true
+unfolding phaseFrom phaseStorable
+storable l at octets fits =
     let n = field l at 1 in
     let f = factsFrom l (at + 1) in
     let a = addressFrom l (at + 1) in
     let t = turnFrom l (at + 18) in
-    let h : addressHeld a ≡ true = Addresses.held l (at + 1) octets (omega arith) in
-    let eap : addressHeld a && turnHeld t ≡ true = and-true (addressHeld a) (turnHeld t) h (turn-held l (at + 18) octets (omega arith)) in
-    cond-passes phaseHeld (eqb n 0) Idle _ refl
-    (cond-passes phaseHeld (eqb n 1) (Country f) _ refl
-    (cond-passes phaseHeld (eqb n 2) (Name f) _ refl
-    (cond-passes phaseHeld (eqb n 3) (Chosen a) _ h
-    (cond-passes phaseHeld (eqb n 4) (Init a) _ h
-    (cond-passes phaseHeld (eqb n 5) (Auth a) _ h
-    (cond-passes phaseHeld (eqb n 6) (Eap a t) _ eap (cond-passes phaseHeld (eqb n 7) (Sure a) (Live a) h h)))))))
+    let h : addressStorable a ≡ true = Addresses.storable l (at + 1) octets (omega arith) in
+    let eap : addressStorable a && turnStorable t ≡ true = and-true (addressStorable a) (turnStorable t) h (turn-storable l (at + 18) octets (omega arith)) in
+    cond-passes phaseStorable (eqb n 0) Idle _ refl
+    (cond-passes phaseStorable (eqb n 1) (Country f) _ refl
+    (cond-passes phaseStorable (eqb n 2) (Name f) _ refl
+    (cond-passes phaseStorable (eqb n 3) (Chosen a) _ h
+    (cond-passes phaseStorable (eqb n 4) (Init a) _ h
+    (cond-passes phaseStorable (eqb n 5) (Auth a) _ h
+    (cond-passes phaseStorable (eqb n 6) (Eap a t) _ eap (cond-passes phaseStorable (eqb n 7) (Sure a) (Live a) h h)))))))

@@ -17,7 +17,7 @@ use Rattle.place.specs.declared.Facts.{Facts}
 use Rattle.place.specs.declared.Place.{Place}
 use Rattle.place.specs.declared.Place.the-variants.{Unknown, Home, Abroad}
 use Rattle.phase.specs.Facts.{placeOctets, registeredOctets, factsOctets}
-use Rattle.phase.specs.Phase.{asking, having, phaseOctets, turnOctets}
+use Rattle.phase.specs.Phase.{askingOctets, havingOctets, phaseOctets, turnOctets}
 use Rattle.phase.specs.declared.Phase.{Phase}
 use Rattle.phase.specs.declared.Phase.the-variants.{Idle, Country, Name, Chosen, Init, Auth, Eap, Sure, Live}
 use Rattle.phase.specs.declared.Turn.{Turn}
@@ -47,12 +47,12 @@ turn-length (First i) = refl
 turn-length (Owed i) = refl
 turn-length (Answered i) = refl
 
-asking-length : (n : ℕ) (f : Facts) → length (asking n f) ≡ 20
-unfolding asking be digits zeros
+asking-length : (n : ℕ) (f : Facts) → length (askingOctets n f) ≡ 20
+unfolding askingOctets be digits zeros
 asking-length n f = both (be 1 n ++ factsOctets f) (zeros 10) 10 10 (both (be 1 n) (factsOctets f) 1 9 refl (facts-length f)) refl
 
-having-length : (n : ℕ) (a : Address) → length (having n a) ≡ 20
-unfolding having be digits zeros
+having-length : (n : ℕ) (a : Address) → length (havingOctets n a) ≡ 20
+unfolding havingOctets be digits zeros
 having-length n a = both (be 1 n ++ addressOctets a) (zeros 2) 18 2 (both (be 1 n) (addressOctets a) 1 17 refl (address-wide a)) refl
 
 pub phase-length : (p : Phase) → length (phaseOctets p) ≡ 20
@@ -84,14 +84,14 @@ octets-of-turn (First i) = joins (be-octets 1 1) (be-octets 1 i)
 octets-of-turn (Owed i) = joins (be-octets 1 2) (be-octets 1 i)
 octets-of-turn (Answered i) = joins (be-octets 1 3) (be-octets 1 i)
 
-octets-of-asking : (n : ℕ) (f : Facts) → Octets (asking n f)
-unfolding asking factsOctets
+octets-of-asking : (n : ℕ) (f : Facts) → Octets (askingOctets n f)
+unfolding askingOctets factsOctets
 octets-of-asking n f =
     let facts : Octets (factsOctets f) = joins (joins (octets-of-place (f .place)) (octets-of-registered (f .registered))) (be-octets 1 (f .version)) in
     joins (joins (be-octets 1 n) facts) (zeros-octets 10)
 
-octets-of-having : (n : ℕ) (a : Address) → Octets (having n a)
-unfolding having
+octets-of-having : (n : ℕ) (a : Address) → Octets (havingOctets n a)
+unfolding havingOctets
 octets-of-having n a = joins (joins (be-octets 1 n) (Addresses.octets a)) (zeros-octets 2)
 
 -- every octet of a phase is one
@@ -120,13 +120,13 @@ module _ {l m n o : List ℕ} {at : ℕ} where
   facts-wrote f = three 3 5 (place-length (f .place)) (registered-length (f .registered))
 
   pub asking-wrote : (k : ℕ) (f : Facts) → Wrote l at (be 1 k) m → Wrote m (at + 1) (factsOctets f) n
-      → Wrote n (at + 10) (be 10 0) o → Wrote l at (asking k f) o
-  unfolding asking be digits zeros
+      → Wrote n (at + 10) (be 10 0) o → Wrote l at (askingOctets k f) o
+  unfolding askingOctets be digits zeros
   asking-wrote k f = three 1 9 refl (facts-length f)
 
   pub having-wrote : (k : ℕ) (a : Address) → Wrote l at (be 1 k) m → Wrote m (at + 1) (addressOctets a) n
-      → Wrote n (at + 18) (be 2 0) o → Wrote l at (having k a) o
-  unfolding having be digits zeros
+      → Wrote n (at + 18) (be 2 0) o → Wrote l at (havingOctets k a) o
+  unfolding havingOctets be digits zeros
   having-wrote k a = three 1 17 refl (address-wide a)
 
   pub eap-wrote : (a : Address) (t : Turn) → Wrote l at (be 1 6) m → Wrote m (at + 1) (addressOctets a) n

@@ -16,7 +16,7 @@ use Rattle.octets.proofs.Search.{and-left, and-right, either}
 use Rattle.addresses.specs.Addresses.{addressOctets, addressFrom, isAddress}
 use Rattle.addresses.proofs.RoundTrip.{address-octets}
 use Rattle.phase.specs.Facts.{placeOctets, placeFrom, placeWritten, registeredOctets, registeredFrom, registeredWritten, factsOctets, factsFrom, factsWritten}
-use Rattle.phase.specs.Phase.{asking, having, phaseFrom, phaseOctets, phaseWritten, turnFrom, turnOctets, turnWritten}
+use Rattle.phase.specs.Phase.{askingOctets, havingOctets, phaseFrom, phaseOctets, phaseWritten, turnFrom, turnOctets, turnWritten}
 
 above-2 : (n : ℕ) → (n ≡ 0 → ⊥) → (n ≡ 1 → ⊥) → (n ≡ 2 → ⊥) → 2 < n
 above-2 n f g h = omega arith
@@ -93,14 +93,14 @@ module _ (l : List ℕ) (octets : allOf (below 256) l ≡ true) where
     unfolding be digits zeros
     idle-octets e w = follow l at 1 19 (number-back l octets at 1 0 (omega arith) e) (zeros-back l (at + 1) 19 w)
 
-    asking-octets : (n : ℕ) → field l at 1 ≡ n → factsWritten l (at + 1) && zerosAt l (at + 10) 10 ≡ true → asking n (factsFrom l (at + 1)) ≡ part l at 20
-    unfolding asking
+    asking-octets : (n : ℕ) → field l at 1 ≡ n → factsWritten l (at + 1) && zerosAt l (at + 10) 10 ≡ true → askingOctets n (factsFrom l (at + 1)) ≡ part l at 20
+    unfolding askingOctets
     asking-octets n e w =
         let facts = facts-octets (at + 1) (omega arith) (and-left (factsWritten l (at + 1)) (zerosAt l (at + 10) 10) w) in
         follow l at 10 10 (follow l at 1 9 (number-back l octets at 1 n (omega arith) e) facts) (zeros-back l (at + 10) 10 (and-right (factsWritten l (at + 1)) (zerosAt l (at + 10) 10) w))
 
-    having-octets : (n : ℕ) → field l at 1 ≡ n → isAddress l (at + 1) && zerosAt l (at + 18) 2 ≡ true → having n (addressFrom l (at + 1)) ≡ part l at 20
-    unfolding having
+    having-octets : (n : ℕ) → field l at 1 ≡ n → isAddress l (at + 1) && zerosAt l (at + 18) 2 ≡ true → havingOctets n (addressFrom l (at + 1)) ≡ part l at 20
+    unfolding havingOctets
     having-octets n e w =
         let address = address-octets l octets (at + 1) (omega arith) (and-left (isAddress l (at + 1)) (zerosAt l (at + 18) 2) w) in
         follow l at 18 2 (follow l at 1 17 (number-back l octets at 1 n (omega arith) e) address) (zeros-back l (at + 18) 2 (and-right (isAddress l (at + 1)) (zerosAt l (at + 18) 2) w))

@@ -8,7 +8,7 @@ use lib.ListN.{length}
 use Rattle.octets.specs.Laws.{below}
 use Rattle.octets.specs.Part.{part}
 use Rattle.octets.specs.Search.{allOf}
-use Rattle.addresses.specs.Laws.{addressHeld}
+use Rattle.addresses.specs.Laws.{addressStorable}
 use Rattle.phase.specs.Phase.{phaseFits, phaseFrom, phaseOctets, phaseWritten}
 use Rattle.phase.specs.declared.Phase.{Phase}
 use Rattle.phase.specs.declared.Phase.the-variants.{Idle, Country, Name, Chosen, Init, Auth, Eap, Sure, Live}
@@ -16,31 +16,31 @@ use Rattle.phase.specs.declared.Turn.{Turn}
 use Rattle.phase.specs.declared.Turn.the-variants.{First, Owed, Answered}
 
 -- an identifier of one octet
-unfoldable pub turnHeld : Turn → Bool
-turnHeld (First i) = ltb i 256
-turnHeld (Owed i) = ltb i 256
-turnHeld (Answered i) = ltb i 256
+unfoldable pub turnStorable : Turn → Bool
+turnStorable (First i) = ltb i 256
+turnStorable (Owed i) = ltb i 256
+turnStorable (Answered i) = ltb i 256
 
 -- a phase whose address and identifier fit their octets; place facts fit theirs by `phaseFits`
-unfoldable pub phaseHeld : Phase → Bool
-phaseHeld Idle = true
-phaseHeld (Country f) = true
-phaseHeld (Name f) = true
-phaseHeld (Chosen a) = addressHeld a
-phaseHeld (Init a) = addressHeld a
-phaseHeld (Auth a) = addressHeld a
-phaseHeld (Eap a t) = addressHeld a && turnHeld t
-phaseHeld (Sure a) = addressHeld a
-phaseHeld (Live a) = addressHeld a
+unfoldable pub phaseStorable : Phase → Bool
+phaseStorable Idle = true
+phaseStorable (Country f) = true
+phaseStorable (Name f) = true
+phaseStorable (Chosen a) = addressStorable a
+phaseStorable (Init a) = addressStorable a
+phaseStorable (Auth a) = addressStorable a
+phaseStorable (Eap a t) = addressStorable a && turnStorable t
+phaseStorable (Sure a) = addressStorable a
+phaseStorable (Live a) = addressStorable a
 
 pub record Laws : Type 0 where
   -- a phase has 20 octets
   pub octet-count : (p : Phase) → length (phaseOctets p) ≡ 20
   -- a phase in range is read back from its octets
-  pub read-back : (l : List ℕ) (at : ℕ) (p : Phase) → phaseFits p ≡ true → phaseHeld p ≡ true → part l at 20 ≡ phaseOctets p
+  pub read-back : (l : List ℕ) (at : ℕ) (p : Phase) → phaseFits p ≡ true → phaseStorable p ≡ true → part l at 20 ≡ phaseOctets p
       → (phaseFrom l at ≡ p) × (phaseWritten l at ≡ true)
   -- a phase is written back as the octets that it was read from
   pub write-back : (l : List ℕ) (at : ℕ) → allOf (below 256) l ≡ true → at + 20 ≤ length l → phaseWritten l at ≡ true
       → part l at 20 ≡ phaseOctets (phaseFrom l at)
   -- a phase that is read from octets has an address and an identifier that fit theirs
-  pub held : (l : List ℕ) (at : ℕ) → allOf (below 256) l ≡ true → at + 20 ≤ length l → phaseHeld (phaseFrom l at) ≡ true
+  pub storable : (l : List ℕ) (at : ℕ) → allOf (below 256) l ≡ true → at + 20 ≤ length l → phaseStorable (phaseFrom l at) ≡ true

@@ -17,12 +17,12 @@ use Rattle.phase.specs.declared.Turn.{Turn}
 use Rattle.phase.specs.declared.Turn.the-variants.{First, Owed, Answered}
 
 -- the place facts while DNS runs
-unfoldable pub asking : ℕ → Facts → List ℕ
-asking n f = be 1 n ++ factsOctets f ++ zeros 10
+unfoldable pub askingOctets : ℕ → Facts → List ℕ
+askingOctets n f = be 1 n ++ factsOctets f ++ zeros 10
 
 -- the chosen address from then on
-unfoldable pub having : ℕ → Address → List ℕ
-having n a = be 1 n ++ addressOctets a ++ zeros 2
+unfoldable pub havingOctets : ℕ → Address → List ℕ
+havingOctets n a = be 1 n ++ addressOctets a ++ zeros 2
 
 -- identifiers during EAP
 unfoldable pub turnOctets : Turn → List ℕ
@@ -32,14 +32,14 @@ turnOctets (Answered i) = be 1 3 ++ be 1 i
 
 unfoldable pub phaseOctets : Phase → List ℕ
 phaseOctets Idle = zeros 20
-phaseOctets (Country f) = asking 1 f
-phaseOctets (Name f) = asking 2 f
-phaseOctets (Chosen a) = having 3 a
-phaseOctets (Init a) = having 4 a
-phaseOctets (Auth a) = having 5 a
+phaseOctets (Country f) = askingOctets 1 f
+phaseOctets (Name f) = askingOctets 2 f
+phaseOctets (Chosen a) = havingOctets 3 a
+phaseOctets (Init a) = havingOctets 4 a
+phaseOctets (Auth a) = havingOctets 5 a
 phaseOctets (Eap a t) = be 1 6 ++ addressOctets a ++ turnOctets t
-phaseOctets (Sure a) = having 7 a
-phaseOctets (Live a) = having 8 a
+phaseOctets (Sure a) = havingOctets 7 a
+phaseOctets (Live a) = havingOctets 8 a
 
 -- the phase at a place
 unfoldable pub turnFrom : List ℕ → ℕ → Turn

@@ -19,7 +19,7 @@ ghost use Prim.Native.Nat.{_+_, _≤_};
 ghost use lib.ListN.{length};
 ghost use Rattle.octets.specs.Part.{Wrote};
 ghost use Rattle.phase.specs.Branch.{havingFrom, isAsking, isCountry, isHaving, isEap};
-ghost use Rattle.phase.specs.Phase.{asking, having, isAbroad, isPhase, phaseFrom, phaseOctets, turnFrom, turnOctets, turnWritten};
+ghost use Rattle.phase.specs.Phase.{askingOctets, havingOctets, isAbroad, isPhase, phaseFrom, phaseOctets, turnFrom, turnOctets, turnWritten};
 
 // How far an EAP session is, from 2 octets.
 fn read_turn(list: &[u8], at: usize) -> Turn
@@ -103,7 +103,7 @@ pub fn read_phase(list: &[u8], at: usize) -> Phase
 // Stores a phase that keeps place facts.
 fn put_asking(list: &mut [u8], at: usize, number: u64, facts: Facts)
     requires { ⌜ at + 20 ≤ length (now list) ⌝ }
-    ensures { λ _. ⌜ Wrote (now (list .entry)) at (asking number facts) (now (list .exit)) ⌝ }
+    ensures { λ _. ⌜ Wrote (now (list .entry)) at (askingOctets number facts) (now (list .exit)) ⌝ }
 {
     put(list, at, 1, number);
     put_facts(list, at + 1, facts);
@@ -113,7 +113,7 @@ fn put_asking(list: &mut [u8], at: usize, number: u64, facts: Facts)
 // Stores a phase that keeps an address alone.
 fn put_having(list: &mut [u8], at: usize, number: u64, address: Address)
     requires { ⌜ at + 20 ≤ length (now list) ⌝ }
-    ensures { λ _. ⌜ Wrote (now (list .entry)) at (having number address) (now (list .exit)) ⌝ }
+    ensures { λ _. ⌜ Wrote (now (list .entry)) at (havingOctets number address) (now (list .exit)) ⌝ }
 {
     put(list, at, 1, number);
     put_address(list, at + 1, address);

@@ -18,20 +18,20 @@ use Rattle.octets.proofs.Search.{and-left, and-right}
 use Rattle.octets.proofs.Stands.{Stands, before, behind, says, to-part, whole}
 use Rattle.address.specs.Address.{addressIn}
 use Rattle.children.specs.Children.{childFits, childIn, childrenFrom, childrenOctets, childrenWritten, spisDiffer}
-use Rattle.children.specs.Laws.{childHeld}
+use Rattle.children.specs.Laws.{childStorable}
 use Rattle.children.proofs.RoundTrip as Children
 use Rattle.holds.specs.Holds.{different, endsAfter, holdIn, holdsFrom, holdsOctets, holdsWritten}
-use Rattle.holds.specs.Laws.{holdHeld}
+use Rattle.holds.specs.Laws.{holdStorable}
 use Rattle.holds.proofs.RoundTrip as Holds
-use Rattle.phase.specs.Laws.{phaseHeld}
+use Rattle.phase.specs.Laws.{phaseStorable}
 use Rattle.phase.specs.Phase.{phaseFits, phaseFrom, phaseOctets, phaseWritten}
 use Rattle.phase.proofs.Reading as Reading
 use Rattle.phase.proofs.Writes as Writes
 use Rattle.phase.proofs.Writing as Writing
-use Rattle.record.specs.Laws.{lineHeld}
+use Rattle.record.specs.Laws.{lineStorable}
 use Rattle.record.specs.Line.{Line}
 use Rattle.record.specs.Octets.{lineFrom, recordOctets}
-use Rattle.record.specs.Sound.{childrenSound, chosen, holdsSound, inRange, isFree, isIdle, isLive, isRecord, lineSound, lineWritten}
+use Rattle.record.specs.Sound.{childrenSound, chosen, holdsSound, inRange, chosenFree, isIdle, isLive, isRecord, lineSound, lineWritten}
 use Rattle.record.proofs.Lines.{line-read}
 use Rattle.record.proofs.Sounds.{child-count, hold-count, record-line, record-lists}
 use Rattle.record.proofs.Writing.{counted, counted-length, first-count, head, head-length, held-length}
@@ -66,7 +66,7 @@ module _ (x : Line) (sound : lineSound x ≡ true) where
       let few = leb (length (x .holds)) 8 in
       let room = isIdle (x .phase) || leb (length (x .holds)) 7 in
       let once = different (map addressIn (x .holds)) in
-      let free = isFree (chosen (x .phase)) (map addressIn (x .holds)) in
+      let free = chosenFree (chosen (x .phase)) (map addressIn (x .holds)) in
       let late = allOf (endsAfter (x .time)) (x .holds) in
       leb-true (length (x .holds)) 8 (and-left few room (and-left (few && room) once (and-left (few && room && once) free (and-left (few && room && once && free) late (and-right before-holds by-holds sound)))))
 
@@ -130,37 +130,37 @@ module _ (pair : ℕ) (x : Line) where
       (behind (H ++ M ++ N ++ holdsOctets (x .holds)) (childrenOctets (x .children)) 203 (held-length pair (x .time) (x .phase) (x .holds) (x .children) few-h) (whole l))
 
   -- a sound line whose parts fit their octets
-  module _ (sound : lineSound x ≡ true) (fits : lineHeld x ≡ true) where
+  module _ (sound : lineSound x ≡ true) (fits : lineStorable x ≡ true) where
     abbrev small : Bool
     small = ltb (x .time) (256 ^ 4)
 
     abbrev lists : Bool
-    lists = small && phaseHeld (x .phase) && allOf holdHeld (x .holds)
+    lists = small && phaseStorable (x .phase) && allOf holdStorable (x .holds)
 
-    lists-held : lists ≡ true
-    unfolding lineHeld
-    lists-held = and-left lists (allOf childHeld (x .children)) fits
+    lists-storable : lists ≡ true
+    unfolding lineStorable
+    lists-storable = and-left lists (allOf childStorable (x .children)) fits
 
-    start-held : small && phaseHeld (x .phase) ≡ true
-    start-held = and-left (small && phaseHeld (x .phase)) (allOf holdHeld (x .holds)) lists-held
+    start-storable : small && phaseStorable (x .phase) ≡ true
+    start-storable = and-left (small && phaseStorable (x .phase)) (allOf holdStorable (x .holds)) lists-storable
 
     phase-back : (phaseFrom l 5 ≡ x .phase) × (phaseWritten l 5 ≡ true)
-    phase-back = Reading.read-back l 5 (x .phase) (phase-fits x sound) (and-right small (phaseHeld (x .phase)) start-held) phase-part
+    phase-back = Reading.read-back l 5 (x .phase) (phase-fits x sound) (and-right small (phaseStorable (x .phase)) start-storable) phase-part
 
     holds-back : (holdsFrom l 27 (length (x .holds)) ≡ x .holds) × (holdsWritten l 27 (length (x .holds)) ≡ true)
     holds-back =
         let few = few-holds x sound in
-        Holds.read-back l 27 (x .holds) few (and-right (small && phaseHeld (x .phase)) (allOf holdHeld (x .holds)) lists-held) (holds-part few)
+        Holds.read-back l 27 (x .holds) few (and-right (small && phaseStorable (x .phase)) (allOf holdStorable (x .holds)) lists-storable) (holds-part few)
 
     children-back : (childrenFrom l 203 (length (x .children)) ≡ x .children) × (childrenWritten l 203 (length (x .children)) ≡ true)
-    unfolding lineHeld
+    unfolding lineStorable
     children-back =
         let few = few-children x sound in
-        Children.read-back l 203 (x .children) few (and-right lists (allOf childHeld (x .children)) fits) (children-part (few-holds x sound) few)
+        Children.read-back l 203 (x .children) few (and-right lists (allOf childStorable (x .children)) fits) (children-part (few-holds x sound) few)
 
     line-back : lineFrom l ≡ x
     line-back =
-        let time = time-back (ltb-true (x .time) (256 ^ 4) (and-left small (phaseHeld (x .phase)) start-held)) in
+        let time = time-back (ltb-true (x .time) (256 ^ 4) (and-left small (phaseStorable (x .phase)) start-storable)) in
         sym (line-read l (sym time) (sym (phase-back .0)) (sym (hold-count-back (few-holds x sound))) (sym (child-count-back (few-children x sound))) (sym (holds-back .0)) (sym (children-back .0)))
 
     line-written : lineWritten l ≡ true
@@ -172,10 +172,10 @@ module _ (pair : ℕ) (x : Line) where
     unfolding isRecord
     record-back low high = rw (pair-back (omega arith), le-leb 1 pair low, le-leb pair 64 high, line-written, line-back) sound
 
-pub read-back : (pair : ℕ) (x : Line) → lineSound x ≡ true → lineHeld x ≡ true → lineFrom (recordOctets pair x) ≡ x
+pub read-back : (pair : ℕ) (x : Line) → lineSound x ≡ true → lineStorable x ≡ true → lineFrom (recordOctets pair x) ≡ x
 read-back pair x sound fits = line-back pair x sound fits
 
-pub sound-back : (pair : ℕ) (x : Line) → 1 ≤ pair → pair ≤ 64 → lineSound x ≡ true → lineHeld x ≡ true → isRecord (recordOctets pair x) ≡ true
+pub sound-back : (pair : ℕ) (x : Line) → 1 ≤ pair → pair ≤ 64 → lineSound x ≡ true → lineStorable x ≡ true → isRecord (recordOctets pair x) ≡ true
 sound-back pair x low high sound fits = record-back pair x sound fits low high
 
 -- the octets of a sound record
@@ -219,12 +219,12 @@ module _ (m : List ℕ) (octets : allOf (below 256) m ≡ true) (size : length m
       (sym (Children.write-back m 203 (field m 26 1) octets (omega arith) (and-right (P && Q) R parts-written)))
       ∙ ap (part m 0) (sym size) ∙ part-whole m
 
-  pub held : lineHeld (lineFrom m) ≡ true
-  unfolding lineHeld lineFrom
-  held =
+  pub storable : lineStorable (lineFrom m) ≡ true
+  unfolding lineStorable lineFrom
+  storable =
       let few-h : field m 25 1 ≤ 8 = hold-count m (record-lists m sound) in
       let few-c : field m 26 1 ≤ 8 = child-count m (record-lists m sound) in
-      rw (lt-ltb (field m 1 4) (256 ^ 4) (field-below m octets 1 4 (omega arith)), Reading.held m 5 octets (omega arith), Holds.held m 27 (field m 25 1) octets (omega arith), Children.held m 203 (field m 26 1) octets (omega arith))
+      rw (lt-ltb (field m 1 4) (256 ^ 4) (field-below m octets 1 4 (omega arith)), Reading.storable m 5 octets (omega arith), Holds.storable m 27 (field m 25 1) octets (omega arith), Children.storable m 203 (field m 26 1) octets (omega arith))
 
 pub octets : (pair : ℕ) (x : Line) → allOf (below 256) (recordOctets pair x) ≡ true
 unfolding recordOctets

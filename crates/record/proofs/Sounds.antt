@@ -22,7 +22,7 @@ use Rattle.phase.specs.declared.Phase.{Phase}
 use Rattle.record.specs.Branch.{listsSound, listsWritten}
 use Rattle.record.specs.Line.{Line}
 use Rattle.record.specs.Octets.{lineFrom}
-use Rattle.record.specs.Sound.{childrenSound, chosen, holdsSound, inRange, isFree, isIdle, isLive, isRecord, lineSound, lineWritten}
+use Rattle.record.specs.Sound.{childrenSound, chosen, holdsSound, inRange, chosenFree, isIdle, isLive, isRecord, lineSound, lineWritten}
 
 module _ (p : Phase) (cs : List Child) (n : ℕ) (size : length cs ≡ n) (few : n ≤ 8) where
   pub live-children : isLive p ≡ true → spisDiffer cs ≡ childrenSound p cs
@@ -55,11 +55,11 @@ module _ (time : ℕ) (p : Phase) (hs : List Hold) (n : ℕ) (size : length hs �
     held-twice e = sym (rw (within, room-is true room, e))
 
     module _ (once : different (map addressIn hs) ≡ true) where
-      pub chosen-held : isFree (chosen p) (map addressIn hs) ≡ false → false ≡ holdsSound time p hs
+      pub chosen-storable : chosenFree (chosen p) (map addressIn hs) ≡ false → false ≡ holdsSound time p hs
       unfolding holdsSound
-      chosen-held e = sym (rw (within, room-is true room, once, e))
+      chosen-storable e = sym (rw (within, room-is true room, once, e))
 
-      pub by-ends : isFree (chosen p) (map addressIn hs) ≡ true → allOf (endsAfter time) hs ≡ holdsSound time p hs
+      pub by-ends : chosenFree (chosen p) (map addressIn hs) ≡ true → allOf (endsAfter time) hs ≡ holdsSound time p hs
       unfolding holdsSound
       by-ends e = sym (rw (within, room-is true room, once, e))
 

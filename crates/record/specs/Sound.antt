@@ -1,13 +1,13 @@
 -- When a record is sound (document 01, 'The table and who sits in it'), one condition after another.
 use Prim.Native.Nat.{ℕ}
 use mathlib.Core.Bool.{Bool, true, false, not, _&&_, _||_}
-use mathlib.Core.List.{List, map}
+use mathlib.Core.List.{List}
 use mathlib.Core.Option.{Option, none, some}
 use lib.Dec.{leb}
 use lib.ListN.{length}
 use Rattle.octets.specs.Digits.{field}
 use Rattle.octets.specs.Search.{allOf}
-use Rattle.address.specs.Address.{addressIn, stands}
+use Rattle.address.specs.Address.{heldAddresses, stands}
 use Rattle.address.specs.declared.Address.{Address}
 use Rattle.address.specs.declared.Hold.{Hold}
 use Rattle.children.specs.declared.Child.{Child}
@@ -62,14 +62,14 @@ unfoldable pub childrenSound : Phase → List Child → Bool
 childrenSound p cs = leb (length cs) 8 && (isLive p || leb (length cs) 0) && spisDiffer cs
 
 -- none of the holds is the chosen one
-unfoldable pub isFree : Option Address → List Address → Bool
-isFree none held = true
-isFree (some a) held = not (stands a held)
+unfoldable pub chosenFree : Option Address → List Address → Bool
+chosenFree none held = true
+chosenFree (some a) held = not (stands a held)
 
 -- at most 8 holds, at most 7 unless the line is idle, for different addresses, none of them the chosen one, each ending after the last time
 unfoldable pub holdsSound : ℕ → Phase → List Hold → Bool
 holdsSound time p hs =
-    leb (length hs) 8 && (isIdle p || leb (length hs) 7) && different (map addressIn hs) && isFree (chosen p) (map addressIn hs)
+    leb (length hs) 8 && (isIdle p || leb (length hs) 7) && different (heldAddresses hs) && chosenFree (chosen p) (heldAddresses hs)
     && allOf (endsAfter time) hs
 
 unfoldable pub lineSound : Line → Bool

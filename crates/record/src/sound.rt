@@ -15,9 +15,9 @@ ghost use mathlib.Core.Path.{_≡_};
 ghost use Prim.Native.Nat.{_≤_};
 ghost use lib.Dec.{leb};
 ghost use lib.ListN.{length, take};
-ghost use Rattle.address.specs.Address.{heldIn};
+ghost use Rattle.address.specs.Address.{heldAddresses};
 ghost use Rattle.record.specs.Branch.{listsSound, listsWritten};
-ghost use Rattle.record.specs.Sound.{childrenSound, chosen, holdsSound, isFree, isIdle, isLive, isRecord};
+ghost use Rattle.record.specs.Sound.{childrenSound, chosen, holdsSound, chosenFree, isIdle, isLive, isRecord};
 
 // Whether a line is idle.
 fn is_idle(phase: Phase) -> bool
@@ -66,7 +66,7 @@ fn is_live(phase: Phase) -> bool
 // Whether none of the first n holds is the chosen address.
 fn is_free(phase: Phase, holds: [Hold; HOLDS], n: usize) -> bool
     requires { ⌜ n ≤ 8 ⌝ }
-    ensures { λ r. ⌜ r ≡ isFree (chosen phase) (heldIn holds n) ⌝ }
+    ensures { λ r. ⌜ r ≡ chosenFree (chosen phase) (heldAddresses (take n holds)) ⌝ }
 {
     match phase {
         Phase::Idle => true,

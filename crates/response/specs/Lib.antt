@@ -1,4 +1,3 @@
 -- How NAS responses are written.
 pub mod Response
 pub mod Laws
-pub mod Examples

@@ -19,17 +19,18 @@ use Rattle.octets.proofs.Parts.{length-part, same-equal}
 use Rattle.octets.proofs.Refusals.{refusal-step}
 use Rattle.octets.proofs.Rows.{getD-row}
 use Rattle.octets.proofs.Search.{and-right, or-left, or-right, or-true}
+use Rattle.octets.specs.Row.{isSome}
 use Rattle.children.specs.Children.{spisDiffer}
 use Rattle.holds.specs.Holds.{different}
-use Rattle.phase.specs.Laws.{phaseHeld}
+use Rattle.phase.specs.Laws.{phaseStorable}
 use Rattle.phase.specs.Phase.{phaseFits}
-use Rattle.record.specs.Laws.{lineHeld}
+use Rattle.record.specs.Laws.{lineStorable}
 use Rattle.record.specs.Line.{Line}
 use Rattle.record.specs.Octets.{lineFrom}
-use Rattle.record.specs.Sound.{childrenSound, chosen, holdsSound, inRange, isFree, isIdle, isLive, isRecord, lineSound, lineWritten}
+use Rattle.record.specs.Sound.{childrenSound, chosen, holdsSound, inRange, chosenFree, isIdle, isLive, isRecord, lineSound, lineWritten}
 use Rattle.record.proofs.RoundTrip as RoundTrip
 use Rattle.table.specs.Laws.{mayStand, slotFits}
-use Rattle.table.specs.Slots.{Slot, Used, hasLine, isOf, isOpen, lineAt, pairIn, slotAt, slotsOf}
+use Rattle.table.specs.Slots.{Slot, Used, isOf, isOpen, lineAt, pairIn, slotAt, slotsOf}
 use Rattle.table.specs.Table.{isTable, recordOf, slot}
 use Rattle.table.proofs.Lookups.{open-line}
 use Rattle.table.proofs.Puts.{pair-from, pair-in, table-kept, table-length}
@@ -45,12 +46,12 @@ use Rattle.rules.proofs.Keeps.{keeps-line}
 
 -- a line just opened is sound and fits its octets
 fresh-sound : lineSound fresh ≡ true
-unfolding fresh lineSound inRange phaseFits allOf childrenSound isLive spisDiffer distinct holdsSound isIdle different isFree chosen
+unfolding fresh lineSound inRange phaseFits allOf childrenSound isLive spisDiffer distinct holdsSound isIdle different chosenFree chosen
 fresh-sound = refl
 
-fresh-held : lineHeld fresh ≡ true
-unfolding fresh lineHeld phaseHeld allOf
-fresh-held = refl
+fresh-storable : lineStorable fresh ≡ true
+unfolding fresh lineStorable phaseStorable allOf
+fresh-storable = refl
 
 -- tenant and line in their ranges
 module _ (tenant line : ℕ) (pair-is : isNoPair tenant line ≡ false) where
@@ -71,9 +72,9 @@ module _ (tenant line : ℕ) (pair-is : isNoPair tenant line ≡ false) where
   pair-high = omega (arith, tenant-range, line-range)
 
   -- a line of one of the 64 pairs fits a record
-  pub used-fits : (x : Line) → lineSound x ≡ true → lineHeld x ≡ true → slotFits (Used (pairOf tenant line) x) ≡ true
+  pub used-fits : (x : Line) → lineSound x ≡ true → lineStorable x ≡ true → slotFits (Used (pairOf tenant line) x) ≡ true
   unfolding slotFits
-  used-fits x sound held = rw (le-leb 1 (pairOf tenant line) pair-low, le-leb (pairOf tenant line) 64 pair-high, sound, held)
+  used-fits x sound storable = rw (le-leb 1 (pairOf tenant line) pair-low, le-leb (pairOf tenant line) 64 pair-high, sound, storable)
 
   -- the call's own line is the one that is found under its pair
   pub own-is : (ss : List Slot) (b : Bool) → getD (viewOf b tenant ss .lines) line none ≡ lineAt (pairOf tenant line) ss
@@ -83,8 +84,8 @@ module _ (tenant line : ℕ) (pair-is : isNoPair tenant line ≡ false) where
 -- the line of an open pair of a sound table is sound and fits its octets
 module _ (l : List ℕ) (good : Good l) (pair : ℕ) (low : 1 ≤ pair) (x : Line) (e : lineAt pair (slotsOf l) ≡ some x) where
   pub is-found : recordOf l pair < 32
-  unfolding hasLine
-  is-found = ltb-true (recordOf l pair) 32 (sym (open-found l pair) ∙ open-line pair low (slotsOf l) ∙ ap hasLine e)
+  unfolding isSome
+  is-found = ltb-true (recordOf l pair) 32 (sym (open-found l pair) ∙ open-line pair low (slotsOf l) ∙ ap isSome e)
 
   abbrev s : List ℕ
   s = slot l (recordOf l pair)
@@ -109,12 +110,12 @@ module _ (l : List ℕ) (good : Good l) (pair : ℕ) (low : 1 ≤ pair) (x : Lin
   unfolding isRecord
   found-sound = ap lineSound (sym is-line) ∙ and-right (leb 1 (field s 0 1) && leb (field s 0 1) 64 && lineWritten s) (lineSound (lineFrom s)) used-record
 
-  pub found-held : lineHeld x ≡ true
+  pub found-storable : lineStorable x ≡ true
   unfolding slot
-  found-held =
+  found-storable =
       let size : length l ≡ 7776 = table-length l (good .sound) in
-      ap lineHeld (sym is-line)
-      ∙ RoundTrip.held s (allOf-part (below 256) l (243 * recordOf l pair) 243 (good .octets)) (length-part l (243 * recordOf l pair) 243 (omega (arith, is-found))) used-record
+      ap lineStorable (sym is-line)
+      ∙ RoundTrip.storable s (allOf-part (below 256) l (243 * recordOf l pair) 243 (good .octets)) (length-part l (243 * recordOf l pair) 243 (omega (arith, is-found))) used-record
 
 -- where no number is given, none of the first conditions holds
 module _ (n m k : ℕ) (a b c : Bool) (rs : List Refusal) (e : refusal ((suc n when a) ∷ (suc m when b) ∷ (suc k when c) ∷ rs) ≡ 0) where
@@ -144,18 +145,18 @@ module _ (l : List ℕ) (good : Good l) (tenant line : ℕ) where
   opening-ready : refusal (step (opening tenant line) v .refusals) ≡ 0 → Ready l (step (opening tenant line) v .act)
   unfolding step mayStand isOf pairIn viewOf
   opening-ready e =
-      let pair-is : isNoPair tenant line ≡ false = second-fails 0 1 3 (not (v .sound)) (isNoPair tenant line) (hasLine mine) ((6 when not (v .free)) ∷ []) e in
-      let new : hasLine mine ≡ false = third-fails 0 1 3 (not (v .sound)) (isNoPair tenant line) (hasLine mine) ((6 when not (v .free)) ∷ []) e in
-      let room : not (v .free) ≡ false = refusal-step 5 (not (v .free)) [] (rest-fails 0 1 3 (not (v .sound)) (isNoPair tenant line) (hasLine mine) ((6 when not (v .free)) ∷ []) e) .0 in
-      let closed : isOpen p ss ≡ false = open-line p (pair-low tenant line pair-is) ss ∙ ap hasLine (sym (own-is tenant line pair-is ss (isTable l))) ∙ new in
-      (ltb-true (recordOf l 0) 32 (sym (open-found l 0) ∙ not-false (v .free) room), used-fits tenant line pair-is fresh fresh-sound fresh-held, or-true (eqb p 0 || eqb p 0) (not (isOpen p ss)) (ap not closed))
+      let pair-is : isNoPair tenant line ≡ false = second-fails 0 1 3 (not (v .sound)) (isNoPair tenant line) (isSome mine) ((6 when not (v .free)) ∷ []) e in
+      let new : isSome mine ≡ false = third-fails 0 1 3 (not (v .sound)) (isNoPair tenant line) (isSome mine) ((6 when not (v .free)) ∷ []) e in
+      let room : not (v .free) ≡ false = refusal-step 5 (not (v .free)) [] (rest-fails 0 1 3 (not (v .sound)) (isNoPair tenant line) (isSome mine) ((6 when not (v .free)) ∷ []) e) .0 in
+      let closed : isOpen p ss ≡ false = open-line p (pair-low tenant line pair-is) ss ∙ ap isSome (sym (own-is tenant line pair-is ss (isTable l))) ∙ new in
+      (ltb-true (recordOf l 0) 32 (sym (open-found l 0) ∙ not-false (v .free) room), used-fits tenant line pair-is fresh fresh-sound fresh-storable, or-true (eqb p 0 || eqb p 0) (not (isOpen p ss)) (ap not closed))
 
   closing-ready : refusal (step (closing tenant line) v .refusals) ≡ 0 → Ready l (step (closing tenant line) v .act)
   unfolding step mayStand isOf pairIn slotFits
   closing-ready e =
-      let pair-is : isNoPair tenant line ≡ false = second-fails 0 1 4 (not (v .sound)) (isNoPair tenant line) (not (hasLine mine)) [] e in
-      let there : hasLine mine ≡ true = not-false (hasLine mine) (third-fails 0 1 4 (not (v .sound)) (isNoPair tenant line) (not (hasLine mine)) [] e) in
-      let opened : isOpen p ss ≡ true = open-line p (pair-low tenant line pair-is) ss ∙ ap hasLine (sym (own-is tenant line pair-is ss (isTable l))) ∙ there in
+      let pair-is : isNoPair tenant line ≡ false = second-fails 0 1 4 (not (v .sound)) (isNoPair tenant line) (not (isSome mine)) [] e in
+      let there : isSome mine ≡ true = not-false (isSome mine) (third-fails 0 1 4 (not (v .sound)) (isNoPair tenant line) (not (isSome mine)) [] e) in
+      let opened : isOpen p ss ≡ true = open-line p (pair-low tenant line pair-is) ss ∙ ap isSome (sym (own-is tenant line pair-is ss (isTable l))) ∙ there in
       (ltb-true (recordOf l p) 32 (sym (open-found l p) ∙ opened), refl, refl)
 
 -- where a timed call is accepted, none of its event's conditions holds
@@ -166,25 +167,25 @@ event-number tenant line time e w x q =
     let event = refusalsOf e (ltb 4294967295 time) (current time x) in
     let late = (7 when ltb time (x .time)) ∷ event in
     refusal-step 6 (ltb time (x .time)) event
-    (refusal-step 4 (not (hasLine (some x))) late (rest-fails 0 1 2 (not (w .sound)) (isNoPair tenant line) (isShort e) ((5 when not (hasLine (some x))) ∷ late) q) .1) .1
+    (refusal-step 4 (not (isSome (some x))) late (rest-fails 0 1 2 (not (w .sound)) (isNoPair tenant line) (isShort e) ((5 when not (isSome (some x))) ∷ late) q) .1) .1
 
 module _ (l : List ℕ) (good : Good l) (tenant line time : ℕ) (e : Event) (octets : allOf (below 256) (eventOctets e) ≡ true) where
   timed-ready : (found : Option Line) → (isNoPair tenant line ≡ false → lineAt (pairOf tenant line) (slotsOf l) ≡ found)
       → refusal (timedStep tenant line time e (viewOf (isTable l) tenant (slotsOf l)) found .refusals) ≡ 0
       → Ready l (timedStep tenant line time e (viewOf (isTable l) tenant (slotsOf l)) found .act)
-  unfolding timedStep hasLine lineOr mayStand isOf pairIn
+  unfolding timedStep isSome lineOr mayStand isOf pairIn
   timed-ready none at-pair q =
       let w = viewOf (isTable l) tenant (slotsOf l) in
       let late = (7 when ltb time (lineOr none .time)) ∷ refusalsOf e (ltb 4294967295 time) (current time (lineOr none)) in
-      absurd (true≢false (refusal-step 4 (not (hasLine none)) late (rest-fails 0 1 2 (not (w .sound)) (isNoPair tenant line) (isShort e) ((5 when not (hasLine none)) ∷ late) q) .0))
+      absurd (true≢false (refusal-step 4 (not (isSome {A = Line} none)) late (rest-fails 0 1 2 (not (w .sound)) (isNoPair tenant line) (isShort e) ((5 when not (isSome {A = Line} none)) ∷ late) q) .0))
   timed-ready (some x) at-pair q =
       let w = viewOf (isTable l) tenant (slotsOf l) in
       let p = pairOf tenant line in
       let late = (7 when ltb time (x .time)) ∷ refusalsOf e (ltb 4294967295 time) (current time x) in
-      let pair-is : isNoPair tenant line ≡ false = second-fails 0 1 2 (not (w .sound)) (isNoPair tenant line) (isShort e) ((5 when not (hasLine (some x))) ∷ late) q in
+      let pair-is : isNoPair tenant line ≡ false = second-fails 0 1 2 (not (w .sound)) (isNoPair tenant line) (isShort e) ((5 when not (isSome (some x))) ∷ late) q in
       let low = pair-low tenant line pair-is in
       let kept =
-      keeps-line e time x octets (found-sound l good p low x (at-pair pair-is)) (found-held l good p low x (at-pair pair-is)) (event-number tenant line time e w x q) in
+      keeps-line e time x octets (found-sound l good p low x (at-pair pair-is)) (found-storable l good p low x (at-pair pair-is)) (event-number tenant line time e w x q) in
       let own : eqb p 0 || eqb p p ≡ true = or-true (eqb p 0) (eqb p p) (eq-eqb p p refl) in
       (is-found l good p low x (at-pair pair-is), used-fits tenant line pair-is (outcome e (current time x) .line) (kept .0) (kept .1), ap (λ (b : Bool). b || not (isOpen p (slotsOf l))) own)
 
@@ -202,4 +203,4 @@ pub timed-pair : (tenant line time : ℕ) (e : Event) (w : View) (found : Option
 unfolding timedStep
 timed-pair tenant line time e w found q =
     second-fails 0 1 2 (not (w .sound)) (isNoPair tenant line) (isShort e)
-    ((5 when not (hasLine found)) ∷ (7 when ltb time (lineOr found .time)) ∷ refusalsOf e (ltb 4294967295 time) (current time (lineOr found))) q
+    ((5 when not (isSome found)) ∷ (7 when ltb time (lineOr found .time)) ∷ refusalsOf e (ltb 4294967295 time) (current time (lineOr found))) q

@@ -8,16 +8,17 @@ use native.Mathlib.Omega.{arith}
 use lib.Dec.{eqb}
 use borrow.Author.Tests.{eqb-true, eq-eqb, ne-eqb, lt-ltb, not-true}
 use Rattle.octets.proofs.Search.{either}
+use Rattle.octets.specs.Row.{isSome}
 use Rattle.record.specs.Line.{Line}
 use Rattle.table.specs.Laws.{mayStand, slotFits}
-use Rattle.table.specs.Slots.{Slot, hasLine, isOf, isOpen, lineAt, pairIn, replaced, slotLine, slotsOf}
+use Rattle.table.specs.Slots.{Slot, isOf, isOpen, lineAt, pairIn, replaced, slotLine, slotsOf}
 use Rattle.table.specs.Table.{recordOf}
 use Rattle.table.proofs.Lookups.{line-added, line-changed, line-dropped, line-other, open-line}
-use Rattle.table.proofs.Stored.{held, put-octets, put-slots, put-sound}
+use Rattle.table.proofs.Stored.{storable, put-octets, put-slots, put-sound}
 use Rattle.table.proofs.Views.{open-found, slots-once}
 use Rattle.rules.specs.Claims.{Good}
 use Rattle.rules.specs.Run.{Act, stay, replace, applied}
-use Rattle.rules.specs.Slots.{appliedOn}
+use Rattle.rules.specs.OnSlots.{appliedOn}
 
 -- the pair's record is found, the new slot fits a record and may stand there
 abbrev pub Ready : List ℕ → Act → Type 0
@@ -29,14 +30,14 @@ module _ (l : List ℕ) (good : Good l) where
   unfolding applied
   applied-good stay r = good
   applied-good (replace pair s) r = record {
-    sound = put-sound l pair s (good .sound) (r .0) (held s (r .1)) (r .2);
+    sound = put-sound l pair s (good .sound) (r .0) (storable s (r .1)) (r .2);
     octets = put-octets l pair s (good .octets);
   }
 
   pub applied-slots : (a : Act) → Ready l a → slotsOf (applied a l) ≡ appliedOn a (slotsOf l)
   unfolding applied appliedOn
   applied-slots stay r = refl
-  applied-slots (replace pair s) r = put-slots l pair s (good .sound) (r .0) (held s (r .1))
+  applied-slots (replace pair s) r = put-slots l pair s (good .sound) (r .0) (storable s (r .1))
 
 -- the line of a pair after an act, by its line before
 unfoldable pub lineAfter : Act → ℕ → Option Line → Option Line
@@ -82,19 +83,19 @@ act-line l good (replace pair s) r q low =
 -- whether a pair is open after an act, by whether it was before
 unfoldable pub openAfter : Act → ℕ → Bool → Bool
 openAfter stay q b = b
-openAfter (replace pair s) q b = cond (eqb (pairIn s) q) (hasLine (slotLine s)) (cond (eqb pair q) false b)
+openAfter (replace pair s) q b = cond (eqb (pairIn s) q) (isSome (slotLine s)) (cond (eqb pair q) false b)
 
-after-open : (a : Act) (q : ℕ) (o : Option Line) → hasLine (lineAfter a q o) ≡ openAfter a q (hasLine o)
-unfolding lineAfter openAfter hasLine
+after-open : (a : Act) (q : ℕ) (o : Option Line) → isSome (lineAfter a q o) ≡ openAfter a q (isSome o)
+unfolding lineAfter openAfter isSome
 after-open stay q o = refl
 after-open (replace pair s) q o = go (eqb (pairIn s) q) (eqb pair q)
   where
-    go : (b c : Bool) → hasLine (cond b (slotLine s) (cond c none o)) ≡ cond b (hasLine (slotLine s)) (cond c false (hasLine o))
+    go : (b c : Bool) → isSome (cond b (slotLine s) (cond c none o)) ≡ cond b (isSome (slotLine s)) (cond c false (isSome o))
     go true c = refl
     go false true = refl
     go false false = refl
 
 pub act-open : (l : List ℕ) → Good l → (a : Act) → Ready l a → (q : ℕ) → 1 ≤ q → isOpen q (slotsOf (applied a l)) ≡ openAfter a q (isOpen q (slotsOf l))
 act-open l good a r q low =
-    open-line q low (slotsOf (applied a l)) ∙ ap hasLine (act-line l good a r q low) ∙ after-open a q (lineAt q (slotsOf l))
+    open-line q low (slotsOf (applied a l)) ∙ ap isSome (act-line l good a r q low) ∙ after-open a q (lineAt q (slotsOf l))
     ∙ ap (openAfter a q) (sym (open-line q low (slotsOf l)))

@@ -12,14 +12,14 @@ use Rattle.octets.specs.Search.{allOf, distinct}
 use Rattle.octets.proofs.Search.{eqb-turned, or-left, or-right, smaller}
 use Rattle.octets.proofs.Sublists.{all-last, distinct-last, only-all, only-distinct, only-length}
 use Rattle.children.specs.Children.{childFits, hasSpi, isSpi, sameSpi, spisDiffer}
-use Rattle.children.specs.Laws.{childHeld}
+use Rattle.children.specs.Laws.{childStorable}
 use Rattle.children.specs.declared.Child.{Child}
-use Rattle.phase.specs.Laws.{phaseHeld}
+use Rattle.phase.specs.Laws.{phaseStorable}
 use Rattle.phase.specs.Phase.{phaseFits}
 use Rattle.phase.specs.declared.Phase.{Phase}
 use Rattle.phase.specs.declared.Phase.the-variants.{Idle}
 use Rattle.record.specs.Line.{Line}
-use Rattle.record.specs.Sound.{chosen, isFree, isIdle, isLive}
+use Rattle.record.specs.Sound.{chosen, chosenFree, isIdle, isLive}
 use Rattle.rules.specs.Life.{inPhase, isOther, withChildren}
 use Rattle.rules.specs.Phases.{isIn}
 use Rattle.rules.specs.Refusals.{badChild}
@@ -44,9 +44,9 @@ module _ (spi session : ℕ) (good : badChild spi session ≡ false) where
       let most : ltb 15 session ≡ false = search (or-left, or-right) in
       rw (le-leb 256 spi (ltb-false spi 256 low), le-leb 1 session (ltb-false session 1 some), le-leb session 15 (ltb-false 15 session most))
 
-  child-held : childHeld child ≡ true
-  unfolding badChild childHeld
-  child-held =
+  child-storable : childStorable child ≡ true
+  unfolding badChild childStorable
+  child-storable =
       let high : ltb 4294967295 spi ≡ false = search (or-left, or-right) in
       let most : ltb 15 session ≡ false = search (or-left, or-right) in
       rw (lt-ltb spi (256 ^ 4) (omega (arith, ltb-false 4294967295 spi high)), lt-ltb session 256 (omega (arith, ltb-false 15 session most)))
@@ -57,7 +57,7 @@ module _ (spi session : ℕ) (good : badChild spi session ≡ false) where
     unfolding hasSpi spisDiffer sameSpi
     one-more on new room = record {
       fit = all-last childFits cs child (c .fit) child-fits;
-      held = all-last childHeld cs child (c .held) child-held;
+      storable = all-last childStorable cs child (c .storable) child-storable;
       few = le-leb (length (cs ++ child ∷ [])) 8 (omega (arith, length-append cs (child ∷ []), leb-false 8 (length cs) room));
       on-live = rw on;
       differ = distinct-last sameSpi spi-turned cs child new (c .differ);
@@ -70,7 +70,7 @@ one-less spi p cs c on =
     let q = isOther spi in
     record {
       fit = only-all q childFits cs (c .fit);
-      held = only-all q childHeld cs (c .held);
+      storable = only-all q childStorable cs (c .storable);
       few = smaller (length (only q cs)) (length cs) 8 (only-length q cs) (c .few);
       on-live = rw on;
       differ = only-distinct q sameSpi cs (c .differ);
@@ -93,12 +93,12 @@ module _ (x : Line) (v : Valid x) where
 
   -- the line goes with all its children
   pub deleted-valid : Valid (withChildren (inPhase x Idle) [])
-  unfolding withChildren inPhase phaseFits phaseHeld childFits allOf isIdle isFree chosen isLive spisDiffer distinct
+  unfolding withChildren inPhase phaseFits phaseStorable childFits allOf isIdle chosenFree chosen isLive spisDiffer distinct
   deleted-valid =
       let h = v .holds-valid in
       record {
         small = v .small;
-        phase-valid = record { fits = refl; held = refl };
-        children-valid = record { fit = refl; held = refl; few = refl; on-live = refl; differ = refl };
-        holds-valid = record { few = h .few; room = refl; differ = h .differ; free = refl; late = h .late; held = h .held };
+        phase-valid = record { fits = refl; storable = refl };
+        children-valid = record { fit = refl; storable = refl; few = refl; on-live = refl; differ = refl };
+        holds-valid = record { few = h .few; room = refl; differ = h .differ; free = refl; late = h .late; storable = h .storable };
       }

@@ -14,10 +14,10 @@ use Rattle.address.specs.Address.{addressIn, sameAddress, stands}
 use Rattle.address.specs.declared.Address.{Address}
 use Rattle.address.specs.declared.Hold.{Hold}
 use Rattle.holds.specs.Holds.{different, endsAfter}
-use Rattle.holds.specs.Laws.{holdHeld}
+use Rattle.holds.specs.Laws.{holdStorable}
 use Rattle.phase.specs.declared.Phase.{Phase}
 use Rattle.record.specs.Line.{Line}
-use Rattle.record.specs.Sound.{chosen, isFree, isIdle}
+use Rattle.record.specs.Sound.{chosen, chosenFree, isIdle}
 use Rattle.rules.specs.Life.{current}
 use Rattle.octets.proofs.Search.{or-second, smaller}
 use Rattle.octets.proofs.Sublists.{any-map, distinct-map, only-all, only-distinct, only-length, only-none, only-passes}
@@ -31,8 +31,8 @@ module _ (q : Hold → Bool) (hs : List Hold) where
       distinct-map addressIn sameAddress (only q hs)
       ∙ only-distinct q (λ g k. sameAddress (addressIn g) (addressIn k)) hs (sym (distinct-map addressIn sameAddress hs) ∙ h)
 
-  left-free : (o : Option Address) → isFree o (map addressIn hs) ≡ true → isFree o (map addressIn (only q hs)) ≡ true
-  unfolding isFree stands
+  left-free : (o : Option Address) → chosenFree o (map addressIn hs) ≡ true → chosenFree o (map addressIn (only q hs)) ≡ true
+  unfolding chosenFree stands
   left-free none h = refl
   left-free (some a) h =
       let apart = sym (any-map addressIn (sameAddress a) hs) ∙ not-true (anyOf (sameAddress a) (map addressIn hs)) h in
@@ -50,7 +50,7 @@ module _ (time : ℕ) where
         differ = left-different q hs (h .differ);
         free = left-free q hs (chosen p) (h .free);
         late = only-passes q hs;
-        held = only-all q holdHeld hs (h .held);
+        storable = only-all q holdStorable hs (h .storable);
       }
 
   -- a time in its range is stored

@@ -16,20 +16,20 @@ use Rattle.address.specs.declared.Address.{Address}
 use Rattle.address.specs.declared.Address.the-variants.{V4, V6}
 use Rattle.address.specs.declared.End.the-variants.{At, Never}
 use Rattle.address.specs.declared.Hold.{Hold}
-use Rattle.addresses.specs.Laws.{addressHeld}
+use Rattle.addresses.specs.Laws.{addressStorable}
 use Rattle.holds.specs.Holds.{different, endAfter, endsAfter}
-use Rattle.holds.specs.Laws.{endHeld, holdHeld}
-use Rattle.phase.specs.Laws.{phaseHeld}
+use Rattle.holds.specs.Laws.{endStorable, holdStorable}
+use Rattle.phase.specs.Laws.{phaseStorable}
 use Rattle.phase.specs.Phase.{phaseFits}
 use Rattle.phase.specs.declared.Phase.the-variants.{Idle}
 use Rattle.record.specs.Line.{Line}
-use Rattle.record.specs.Sound.{chosen, isFree, isIdle, isLive}
+use Rattle.record.specs.Sound.{chosen, chosenFree, isIdle, isLive}
 use Rattle.timer.specs.Timer.{timerOf, unitSeconds}
 use Rattle.timer.specs.declared.Timer.{Timer}
 use Rattle.timer.specs.declared.Timer.the-variants as Timer
-use Rattle.rules.specs.Life.{congested, heldBy, holdBy, inPhase}
+use Rattle.rules.specs.Life.{congested, chosenHold, timerHold, inPhase}
 use Rattle.rules.proofs.Moves.{children-stay, rests, room-left}
-use Rattle.rules.proofs.Phases.{chosen-held}
+use Rattle.rules.proofs.Phases.{chosen-storable}
 use Rattle.rules.proofs.Valid.{HoldsValid, Valid}
 
 -- the test of equal addresses goes both ways
@@ -62,8 +62,8 @@ module _ (time n : ℕ) (small : ltb time (256 ^ 4) ≡ true) (fits : ltb 0 n &&
   end-late : ltb time (time + n) ≡ true
   end-late = lt-ltb time (time + n) (omega (arith, some-seconds))
 
-  end-held : ltb 0 (time + n) && ltb (time + n) (256 ^ 5) ≡ true
-  end-held =
+  end-storable : ltb 0 (time + n) && ltb (time + n) (256 ^ 5) ≡ true
+  end-storable =
       let few : n ≤ 35_712_000 = leb-true n 35_712_000 (and-right (ltb 0 n) (leb n 35_712_000) fits) in
       let early : time < 256 ^ 4 = ltb-true time (256 ^ 4) small in
       and-true (ltb 0 (time + n)) (ltb (time + n) (256 ^ 5)) (lt-ltb 0 (time + n) (omega (arith, some-seconds))) (lt-ltb (time + n) (256 ^ 5) (omega arith))
@@ -77,10 +77,10 @@ module _ (x : Line) (v : Valid x) (calm : isLive (x .phase) ≡ false) (busy : i
   -- a hold of the chosen address
   module _ (h : Hold) (own : chosen (x .phase) ≡ some (h .address)) where
     own-free : stands (h .address) (map addressIn (x .holds)) ≡ false
-    unfolding isFree
+    unfolding chosenFree
     own-free =
         not-true (stands (h .address) (map addressIn (x .holds)))
-        (ap (λ (o : Option Address). isFree o (map addressIn (x .holds))) (sym own) ∙ v .holds-valid .free)
+        (ap (λ (o : Option Address). chosenFree o (map addressIn (x .holds))) (sym own) ∙ v .holds-valid .free)
 
     more-different : different (map addressIn (x .holds ++ h ∷ [])) ≡ true
     unfolding different stands addressIn
@@ -89,9 +89,9 @@ module _ (x : Line) (v : Valid x) (calm : isLive (x .phase) ≡ false) (busy : i
         ∙ distinct-last (λ g k. sameAddress (addressIn g) (addressIn k)) (λ g k. address-turned (addressIn g) (addressIn k)) (x .holds) h
         (sym (any-map addressIn (sameAddress (h .address)) (x .holds)) ∙ own-free) (sym (distinct-map addressIn sameAddress (x .holds)) ∙ v .holds-valid .differ)
 
-    one-hold : endsAfter (x .time) h ≡ true → holdHeld h ≡ true → HoldsValid (x .time) Idle (x .holds ++ h ∷ [])
-    unfolding isIdle isFree chosen
-    one-hold late held =
+    one-hold : endsAfter (x .time) h ≡ true → holdStorable h ≡ true → HoldsValid (x .time) Idle (x .holds ++ h ∷ [])
+    unfolding isIdle chosenFree chosen
+    one-hold late storable =
         let o = v .holds-valid in
         record {
           few = le-leb (length (x .holds ++ h ∷ [])) 8 (omega (arith, length-append (x .holds) (h ∷ []), leb-true (length (x .holds)) 7 (room-left x v calm busy)));
@@ -99,29 +99,29 @@ module _ (x : Line) (v : Valid x) (calm : isLive (x .phase) ≡ false) (busy : i
           differ = more-different;
           free = refl;
           late = all-last (endsAfter (x .time)) (x .holds) h (o .late) late;
-          held = all-last holdHeld (x .holds) h (o .held) held;
+          storable = all-last holdStorable (x .holds) h (o .storable) storable;
         }
 
   -- the hold that the timer sets, or none
-  more-holds : (o : Option Address) → chosen (x .phase) ≡ o → (t : Timer) → timerFits t ≡ true → HoldsValid (x .time) Idle (x .holds ++ heldBy (x .time) t o)
-  unfolding heldBy holdBy timerFits endsAfter endAfter holdHeld endHeld
+  more-holds : (o : Option Address) → chosen (x .phase) ≡ o → (t : Timer) → timerFits t ≡ true → HoldsValid (x .time) Idle (x .holds ++ chosenHold (x .time) t o)
+  unfolding chosenHold timerHold timerFits endsAfter endAfter holdStorable endStorable
   more-holds none e t fits = same-holds
   more-holds (some a) e Timer.None fits = same-holds
   more-holds (some a) e (Timer.Seconds n) fits =
-      let own = chosen-held (x .phase) a e (v .phase-valid .held) in
+      let own = chosen-storable (x .phase) a e (v .phase-valid .storable) in
       let end = x .time + n in
-      let held = and-true (addressHeld a) (ltb 0 end && ltb end (256 ^ 5)) own (end-held (x .time) n (v .small) fits) in
-      one-hold (record { address = a; end = At end }) e (end-late (x .time) n (v .small) fits) held
+      let storable = and-true (addressStorable a) (ltb 0 end && ltb end (256 ^ 5)) own (end-storable (x .time) n (v .small) fits) in
+      one-hold (record { address = a; end = At end }) e (end-late (x .time) n (v .small) fits) storable
   more-holds (some a) e Timer.Deactivated fits =
-      let own = chosen-held (x .phase) a e (v .phase-valid .held) in
-      one-hold (record { address = a; end = Never }) e refl (and-true (addressHeld a) true own refl)
+      let own = chosen-storable (x .phase) a e (v .phase-valid .storable) in
+      one-hold (record { address = a; end = Never }) e refl (and-true (addressStorable a) true own refl)
 
   -- a line with a chosen address and a timer octet
   pub congested-valid : (octet : ℕ) → octet ≤ 255 → Valid (congested x (timerOf octet))
-  unfolding congested phaseFits phaseHeld
+  unfolding congested phaseFits phaseStorable
   congested-valid octet h = record {
     small = v .small;
-    phase-valid = record { fits = refl; held = refl };
+    phase-valid = record { fits = refl; storable = refl };
     children-valid = children-stay x v calm Idle;
     holds-valid = more-holds (chosen (x .phase)) refl (timerOf octet) (timer-fits octet h);
   }

@@ -9,12 +9,12 @@ use lib.ListN.{getD}
 use borrow.Author.Tests.{eqb-true, eqb-false, eq-eqb, ne-eqb, lt-ltb}
 use Rattle.octets.specs.Part.{zeros}
 use Rattle.octets.specs.Refusal.{refusal}
-use Rattle.octets.specs.Row.{keep, only}
+use Rattle.octets.specs.Row.{keep, only, isSome}
 use Rattle.octets.specs.Search.{allOf}
 use Rattle.octets.proofs.Octets.{zeros-octets}
 use Rattle.octets.proofs.Search.{and-left, and-right, either}
 use Rattle.record.specs.Line.{Line}
-use Rattle.table.specs.Slots.{Used, hasLine, isOpen, lineAt, pairIn, slotLine, slotsOf}
+use Rattle.table.specs.Slots.{Used, isOpen, lineAt, pairIn, slotLine, slotsOf}
 use Rattle.table.specs.Table.{isTable, recordOf}
 use Rattle.table.proofs.Empty.{empty-sound}
 use Rattle.table.proofs.Views.{open-found}
@@ -92,7 +92,7 @@ module _ (l : List ℕ) (good : Good l) (p : ℕ) (x : Line) (r : Ready l (repla
   line-stays away = act-line l good change r q low ∙ rw (ne-eqb p q away)
 
   open-stays : isOpen q (slotsOf (applied change l)) ≡ isOpen q (slotsOf l)
-  unfolding openAfter pairIn slotLine hasLine
+  unfolding openAfter pairIn slotLine isSome
   open-stays = act-open l good change r q low ∙ either p q here there
     where
       here : p ≡ q → openAfter change q (isOpen q (slotsOf l)) ≡ isOpen q (slotsOf l)

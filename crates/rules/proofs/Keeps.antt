@@ -14,29 +14,30 @@ use Rattle.octets.specs.Refusal.{Refusal, _when_, refusal}
 use Rattle.octets.specs.Search.{allOf}
 use Rattle.octets.proofs.Refusals.{refusal-step}
 use Rattle.octets.proofs.Search.{and-left, and-right, or-left, or-right}
+use Rattle.octets.specs.Row.{isSome}
 use Rattle.children.specs.Children.{hasSpi}
 use Rattle.config.specs.Settings.{configOf}
 use Rattle.eap.specs.Packet.{readPacket}
 use Rattle.lists.specs.Lists.{addressesIn, networksIn}
 use Rattle.phase.specs.declared.Phase.{Phase}
 use Rattle.phase.specs.declared.Phase.the-variants.{Init, Auth, Live}
-use Rattle.record.specs.Laws.{lineHeld}
+use Rattle.record.specs.Laws.{lineStorable}
 use Rattle.record.specs.Line.{Line}
 use Rattle.record.specs.Sound.{chosen, isIdle, isLive, lineSound}
 use Rattle.selection.specs.Selection as Selection
 use Rattle.text.specs.Text.{text}
-use Rattle.rules.specs.Call.{Event, Given, start, country, address, begin, init, eap, reply, final, error, congestion, give-up, child-made, child-deleted, ike-delete, eventOctets, givenFits}
+use Rattle.rules.specs.Call.{Event, StartNumbers, start, country, address, begin, init, eap, reply, final, error, congestion, give-up, child-made, child-deleted, ike-delete, eventOctets, startNumbersFit}
 use Rattle.rules.specs.Life.{becomes, current, finished, goes, keeps, outcome}
 use Rattle.rules.specs.Phases.{factsIn, isIn, owed, turnIn, underway, word}
-use Rattle.rules.specs.Refusals.{badChild, isSome, refusalsOf, unless}
+use Rattle.rules.specs.Refusals.{badChild, refusalsOf, unless}
 use Rattle.rules.proofs.Children.{child-deleted-valid, child-made-valid, deleted-valid}
 use Rattle.rules.proofs.Current.{current-valid}
-use Rattle.rules.proofs.Eap.{due-calm, packet-held, replied-valid, taken-valid}
+use Rattle.rules.proofs.Eap.{due-calm, packet-storable, replied-valid, taken-valid}
 use Rattle.rules.proofs.Ends.{congested-valid}
 use Rattle.rules.proofs.Moves.{auth-carries, goes-on, init-carries, live-carries, rests}
-use Rattle.rules.proofs.Nodes.{config-held}
+use Rattle.rules.proofs.Nodes.{config-storable}
 use Rattle.rules.proofs.Phases.{not-idle, not-live}
-use Rattle.rules.proofs.Selecting.{addressed-valid, addresses-held, answered-valid, started-valid}
+use Rattle.rules.proofs.Selecting.{addressed-valid, addresses-storable, answered-valid, started-valid}
 use Rattle.rules.proofs.Valid.{Valid, held-of, sound-of, valid-of}
 
 -- a phase that passes a test of the rules isn't live
@@ -92,28 +93,28 @@ module _ (out : Bool) (x : Line) where
 
   -- each event that isn't refused leaves a valid line
   module _ (v : Valid x) where
-    keeps-start : (g : Given) (l : List ℕ) (room : ℕ) → refusal (refusalsOf (start g l room) out x) ≡ 0 → Valid (outcome (start g l room) x .line)
+    keeps-start : (g : StartNumbers) (l : List ℕ) (room : ℕ) → refusal (refusalsOf (start g l room) out x) ≡ 0 → Valid (outcome (start g l room) x .line)
     unfolding refusalsOf outcome unless text same
     keeps-start g l room e =
         let first = refusal-step 7 _ _ e in
         let third = refusal-step 9 _ _ (refusal-step 8 _ _ (first .1) .1) in
-        let fits : not (givenFits g) ≡ false = search (or-left, or-right) in
+        let fits : not (startNumbersFit g) ≡ false = search (or-left, or-right) in
         let calm = calm-word (x .phase) "idle" refl (allowed-then _ _ _ _ e) in
         let few = leb-false 8 (length (x .holds)) (refusal-step 12 _ _ (third .1) .0) in
-        started-valid x v calm (le-leb (length (x .holds)) 7 (omega arith)) g (not-false (givenFits g) fits) l (configOf l) (config-held l)
+        started-valid x v calm (le-leb (length (x .holds)) 7 (omega arith)) g (not-false (startNumbersFit g) fits) l (configOf l) (config-storable l)
 
     keeps-country : (n : ℕ) (networks l : List ℕ) (room : ℕ) → refusal (refusalsOf (country n networks l room) out x) ≡ 0
         → Valid (outcome (country n networks l room) x .line)
     unfolding refusalsOf outcome text same
     keeps-country n networks l room e =
         let calm = calm-word (x .phase) "country" refl (allowed-then _ _ _ [] e) in
-        answered-valid x v calm (factsIn (x .phase)) refl (Selection.answered (eqb n 1) (networksIn networks)) l (configOf l) (config-held l)
+        answered-valid x v calm (factsIn (x .phase)) refl (Selection.countryReply (eqb n 1) (networksIn networks)) l (configOf l) (config-storable l)
 
     keeps-address : (l : List ℕ) → allOf (below 256) l ≡ true → refusal (refusalsOf (address l) out x) ≡ 0 → Valid (outcome (address l) x .line)
     unfolding refusalsOf outcome text same
     keeps-address l octets e =
         let calm = calm-word (x .phase) "name" refl (allowed-by _ _ [] e) in
-        addressed-valid x v calm (factsIn (x .phase)) refl (addressesIn l) (addresses-held l octets)
+        addressed-valid x v calm (factsIn (x .phase)) refl (addressesIn l) (addresses-storable l octets)
 
     keeps-begin : refusal (refusalsOf begin out x) ≡ 0 → Valid (outcome begin x .line)
     unfolding refusalsOf outcome keeps goes text same
@@ -129,7 +130,7 @@ module _ (out : Bool) (x : Line) where
     unfolding refusalsOf outcome
     keeps-eap packet octets e =
         let q = readPacket packet in
-        taken-valid x v (due-calm q (x .phase) (allowed-then _ _ _ [] e)) packet q (packet-held packet octets)
+        taken-valid x v (due-calm q (x .phase) (allowed-then _ _ _ [] e)) packet q (packet-storable packet octets)
 
     keeps-reply : (parameters nas : List ℕ) (room : ℕ) → refusal (refusalsOf (reply parameters nas room) out x) ≡ 0
         → Valid (outcome (reply parameters nas room) x .line)
@@ -202,9 +203,9 @@ module _ (out : Bool) (x : Line) where
     keeps-valid ike-delete octets e = keeps-ike-delete
 
 -- every event that isn't refused leaves a line sound whose parts fit their octets
-pub keeps-line : (e : Event) (time : ℕ) (x : Line) → allOf (below 256) (eventOctets e) ≡ true → lineSound x ≡ true → lineHeld x ≡ true
+pub keeps-line : (e : Event) (time : ℕ) (x : Line) → allOf (below 256) (eventOctets e) ≡ true → lineSound x ≡ true → lineStorable x ≡ true
     → refusal (refusalsOf e (ltb 4294967295 time) (current time x)) ≡ 0
-    → (lineSound (outcome e (current time x) .line) ≡ true) × (lineHeld (outcome e (current time x) .line) ≡ true)
+    → (lineSound (outcome e (current time x) .line) ≡ true) × (lineStorable (outcome e (current time x) .line) ≡ true)
 keeps-line e time x octets sound fits accepted =
     let out = ltb 4294967295 time in
     let now = current time x in

@@ -8,39 +8,39 @@ use lib.ListN.{length}
 use Rattle.octets.proofs.Search.{or-other, or-true}
 use Rattle.address.specs.Address.{addressIn}
 use Rattle.address.specs.declared.Address.{Address}
-use Rattle.addresses.specs.Laws.{addressHeld}
-use Rattle.phase.specs.Laws.{phaseHeld}
+use Rattle.addresses.specs.Laws.{addressStorable}
+use Rattle.phase.specs.Laws.{phaseStorable}
 use Rattle.phase.specs.Phase.{phaseFits}
 use Rattle.phase.specs.declared.Phase.{Phase}
 use Rattle.phase.specs.declared.Phase.the-variants.{Idle, Init, Auth, Sure, Live}
 use Rattle.record.specs.Line.{Line}
-use Rattle.record.specs.Sound.{chosen, isFree, isIdle, isLive}
+use Rattle.record.specs.Sound.{chosen, chosenFree, isIdle, isLive}
 use Rattle.rules.specs.Life.{inPhase, onward}
-use Rattle.rules.proofs.Phases.{chosen-busy, chosen-held}
+use Rattle.rules.proofs.Phases.{chosen-busy, chosen-storable}
 use Rattle.rules.proofs.Valid.{ChildrenValid, PhaseValid, Valid}
 
 -- phases that keep an address
 pub record Carries (f : Address → Phase) : Type 0 where
   pub fits : (a : Address) → phaseFits (f a) ≡ true
-  pub held : (a : Address) → addressHeld a ≡ true → phaseHeld (f a) ≡ true
+  pub storable : (a : Address) → addressStorable a ≡ true → phaseStorable (f a) ≡ true
   pub same : (a : Address) → chosen (f a) ≡ some a
 
 -- the phases that keep nothing but an address
 pub init-carries : Carries Init
-unfolding phaseFits phaseHeld chosen
-init-carries = record { fits = λ a. refl; held = λ a h. h; same = λ a. refl }
+unfolding phaseFits phaseStorable chosen
+init-carries = record { fits = λ a. refl; storable = λ a h. h; same = λ a. refl }
 
 pub auth-carries : Carries Auth
-unfolding phaseFits phaseHeld chosen
-auth-carries = record { fits = λ a. refl; held = λ a h. h; same = λ a. refl }
+unfolding phaseFits phaseStorable chosen
+auth-carries = record { fits = λ a. refl; storable = λ a h. h; same = λ a. refl }
 
 pub sure-carries : Carries Sure
-unfolding phaseFits phaseHeld chosen
-sure-carries = record { fits = λ a. refl; held = λ a h. h; same = λ a. refl }
+unfolding phaseFits phaseStorable chosen
+sure-carries = record { fits = λ a. refl; storable = λ a h. h; same = λ a. refl }
 
 pub live-carries : Carries Live
-unfolding phaseFits phaseHeld chosen
-live-carries = record { fits = λ a. refl; held = λ a h. h; same = λ a. refl }
+unfolding phaseFits phaseStorable chosen
+live-carries = record { fits = λ a. refl; storable = λ a h. h; same = λ a. refl }
 
 module _ (x : Line) (v : Valid x) (calm : isLive (x .phase) ≡ false) where
   -- it has no children
@@ -51,10 +51,10 @@ module _ (x : Line) (v : Valid x) (calm : isLive (x .phase) ≡ false) where
   pub children-stay : (p : Phase) → ChildrenValid p (x .children)
   children-stay p =
       let c = v .children-valid in
-      record { fit = c .fit; held = c .held; few = c .few; on-live = or-true (isLive p) (leb (length (x .children)) 0) childless; differ = c .differ }
+      record { fit = c .fit; storable = c .storable; few = c .few; on-live = or-true (isLive p) (leb (length (x .children)) 0) childless; differ = c .differ }
 
   -- a phase that leaves room for the holds and keeps no held address
-  pub moves : (p : Phase) → PhaseValid p → isIdle p || leb (length (x .holds)) 7 ≡ true → isFree (chosen p) (map addressIn (x .holds)) ≡ true
+  pub moves : (p : Phase) → PhaseValid p → isIdle p || leb (length (x .holds)) 7 ≡ true → chosenFree (chosen p) (map addressIn (x .holds)) ≡ true
       → Valid (inPhase x p)
   unfolding inPhase
   moves p q room free =
@@ -63,13 +63,13 @@ module _ (x : Line) (v : Valid x) (calm : isLive (x .phase) ≡ false) where
         small = v .small;
         phase-valid = q;
         children-valid = children-stay p;
-        holds-valid = record { few = h .few; room = room; differ = h .differ; free = free; late = h .late; held = h .held };
+        holds-valid = record { few = h .few; room = room; differ = h .differ; free = free; late = h .late; storable = h .storable };
       }
 
   -- every line that isn't live may go idle
   pub rests : Valid (inPhase x Idle)
-  unfolding phaseFits phaseHeld isIdle isFree chosen
-  rests = moves Idle (record { fits = refl; held = refl }) refl refl
+  unfolding phaseFits phaseStorable isIdle chosenFree chosen
+  rests = moves Idle (record { fits = refl; storable = refl }) refl refl
 
   -- a line that isn't idle has room for one hold more
   pub room-left : isIdle (x .phase) ≡ false → leb (length (x .holds)) 7 ≡ true
@@ -81,10 +81,10 @@ module _ (x : Line) (v : Valid x) (calm : isLive (x .phase) ≡ false) where
     unfolding onward
     carried none e = rests
     carried (some a) e =
-        let held = c .held a (chosen-held (x .phase) a e (v .phase-valid .held)) in
+        let storable = c .storable a (chosen-storable (x .phase) a e (v .phase-valid .storable)) in
         let room = or-true (isIdle (f a)) (leb (length (x .holds)) 7) (room-left (chosen-busy (x .phase) a e)) in
-        let free = ap (λ (o : Option Address). isFree o (map addressIn (x .holds))) (c .same a ∙ sym e) ∙ v .holds-valid .free in
-        moves (f a) (record { fits = c .fits a; held = held }) room free
+        let free = ap (λ (o : Option Address). chosenFree o (map addressIn (x .holds))) (c .same a ∙ sym e) ∙ v .holds-valid .free in
+        moves (f a) (record { fits = c .fits a; storable = storable }) room free
 
     pub goes-on : Valid (inPhase x (onward f (chosen (x .phase))))
     goes-on = carried (chosen (x .phase)) refl

@@ -14,9 +14,9 @@ use Rattle.octets.specs.Search.{allOf}
 use Rattle.octets.proofs.Digits.{number-below}
 use Rattle.octets.proofs.Parts.{length-part}
 use Rattle.octets.proofs.Search.{and-left, and-right, and-true, cond-passes}
-use Rattle.addresses.specs.Laws.{addressHeld}
+use Rattle.addresses.specs.Laws.{addressStorable}
 use Rattle.config.specs.Lines.{entries, entriesFrom, lastEntry}
-use Rattle.config.specs.Settings.{Settings, accepted, afterNode, asHome, asListed, asNode, configOf, firstNode, fromHome, isEnd, namePlace, nodeOr, plmnIn, rest, run, settle, withHome}
+use Rattle.config.specs.Settings.{Settings, accepted, afterNode, asHome, asListed, asNode, configOf, firstNode, fromHome, isEnd, namePlace, nodeOr, plmnIn, rest, section, settle, withHome}
 use Rattle.config.specs.declared.Node.{Node}
 use Rattle.config.specs.declared.Node.the-variants as Node
 use Rattle.entry.specs.Entry.{barEntry, entryOf, four, homeEntry, lineEntry, nameEntry, nodeEntry, plmnEntry, three, v4Entry, v4From, v6Entry, v6From}
@@ -29,23 +29,23 @@ use Rattle.text.specs.Text.{digit, isDigit, readDigits, text}
 use Rattle.text.proofs.Texts.{allOf-digits}
 
 -- an address that stands in an entry, in `node` or in the settings fits its octets
-unfoldable pub entryHeld : Entry → Bool
-entryHeld (Entry.Home p) = true
-entryHeld (Entry.Name n) = true
-entryHeld (Entry.Node a) = addressHeld a
-entryHeld (Entry.Preference p) = true
-entryHeld (Entry.Bar p) = true
-entryHeld Entry.End = true
-entryHeld Entry.Bad = true
+unfoldable pub entryStorable : Entry → Bool
+entryStorable (Entry.Home p) = true
+entryStorable (Entry.Name n) = true
+entryStorable (Entry.Node a) = addressStorable a
+entryStorable (Entry.Preference p) = true
+entryStorable (Entry.Bar p) = true
+entryStorable Entry.End = true
+entryStorable Entry.Bad = true
 
-unfoldable pub nodeHeld : Node → Bool
-nodeHeld Node.None = true
-nodeHeld (Node.Name at n) = true
-nodeHeld (Node.Address a) = addressHeld a
+unfoldable pub nodeStorable : Node → Bool
+nodeStorable Node.None = true
+nodeStorable (Node.Name at n) = true
+nodeStorable (Node.Address a) = addressStorable a
 
-unfoldable pub settingsHeld : Option Settings → Bool
-settingsHeld none = true
-settingsHeld (some s) = nodeHeld (s .node)
+unfoldable pub settingsStorable : Option Settings → Bool
+settingsStorable none = true
+settingsStorable (some s) = nodeStorable (s .node)
 
 -- a number that is read is below a bound
 readBelow : ℕ → Option ℕ → Bool
@@ -64,79 +64,79 @@ read-below l n size = go (allOf (isDigit 16) l) refl
     go false e = refl
 
 -- version 4 has 8 digits
-v4-held : (o : Option ℕ) → readBelow (2 ^ 32) o ≡ true → entryHeld (v4From o) ≡ true
-unfolding readBelow v4From entryHeld addressHeld
-v4-held none h = refl
-v4-held (some x) h = h
+v4-storable : (o : Option ℕ) → readBelow (2 ^ 32) o ≡ true → entryStorable (v4From o) ≡ true
+unfolding readBelow v4From entryStorable addressStorable
+v4-storable none h = refl
+v4-storable (some x) h = h
 
-v4-entry : (l : List ℕ) → entryHeld (v4Entry l) ≡ true
-unfolding v4Entry entryHeld
+v4-entry : (l : List ℕ) → entryStorable (v4Entry l) ≡ true
+unfolding v4Entry entryStorable
 v4-entry l = go (eqb (length l) 8) refl
   where
-    go : (t : Bool) → eqb (length l) 8 ≡ t → entryHeld (cond t (v4From (readDigits 16 l)) Entry.Bad) ≡ true
-    go true e = v4-held (readDigits 16 l) (read-below l 8 (eqb-true (length l) 8 e))
+    go : (t : Bool) → eqb (length l) 8 ≡ t → entryStorable (cond t (v4From (readDigits 16 l)) Entry.Bad) ≡ true
+    go true e = v4-storable (readDigits 16 l) (read-below l 8 (eqb-true (length l) 8 e))
     go false e = refl
 
 -- version 6 has 16 digits in each half
-v6-held : (o r : Option ℕ) → readBelow (2 ^ 64) o ≡ true → readBelow (2 ^ 64) r ≡ true → entryHeld (v6From o r) ≡ true
-unfolding readBelow v6From entryHeld addressHeld
-v6-held none r h k = refl
-v6-held (some x) none h k = refl
-v6-held (some x) (some y) h k = and-true (ltb x (2 ^ 64)) (ltb y (2 ^ 64)) h k
+v6-storable : (o r : Option ℕ) → readBelow (2 ^ 64) o ≡ true → readBelow (2 ^ 64) r ≡ true → entryStorable (v6From o r) ≡ true
+unfolding readBelow v6From entryStorable addressStorable
+v6-storable none r h k = refl
+v6-storable (some x) none h k = refl
+v6-storable (some x) (some y) h k = and-true (ltb x (2 ^ 64)) (ltb y (2 ^ 64)) h k
 
-v6-entry : (l : List ℕ) → entryHeld (v6Entry l) ≡ true
-unfolding v6Entry entryHeld
+v6-entry : (l : List ℕ) → entryStorable (v6Entry l) ≡ true
+unfolding v6Entry entryStorable
 v6-entry l = go (eqb (length l) 32) refl
   where
-    go : (t : Bool) → eqb (length l) 32 ≡ t → entryHeld (cond t (v6From (readDigits 16 (part l 0 16)) (readDigits 16 (part l 16 16))) Entry.Bad) ≡ true
+    go : (t : Bool) → eqb (length l) 32 ≡ t → entryStorable (cond t (v6From (readDigits 16 (part l 0 16)) (readDigits 16 (part l 16 16))) Entry.Bad) ≡ true
     go true e =
         let size : length l ≡ 32 = eqb-true (length l) 32 e in
         let high = read-below (part l 0 16) 16 (length-part l 0 16 (omega arith)) in
         let low = read-below (part l 16 16) 16 (length-part l 16 16 (omega arith)) in
-        v6-held (readDigits 16 (part l 0 16)) (readDigits 16 (part l 16 16)) high low
+        v6-storable (readDigits 16 (part l 0 16)) (readDigits 16 (part l 16 16)) high low
     go false e = refl
 
 -- `node` goes on with a name or with an address that fits
-node-entry : (kind l : List ℕ) → entryHeld (nodeEntry kind l) ≡ true
-unfolding nodeEntry nameEntry entryHeld
+node-entry : (kind l : List ℕ) → entryStorable (nodeEntry kind l) ≡ true
+unfolding nodeEntry nameEntry entryStorable
 node-entry kind l =
     let six = cond (same kind (text "v6")) (v6Entry l) Entry.Bad in
     let four = cond (same kind (text "v4")) (v4Entry l) six in
-    let six-held = cond-passes entryHeld (same kind (text "v6")) (v6Entry l) Entry.Bad (v6-entry l) refl in
-    let four-held = cond-passes entryHeld (same kind (text "v4")) (v4Entry l) six (v4-entry l) six-held in
-    let name-held = cond-passes entryHeld (isName l) (Entry.Name (length l)) Entry.Bad refl refl in
-    cond-passes entryHeld (same kind (text "name")) (nameEntry l) four name-held four-held
+    let six-storable = cond-passes entryStorable (same kind (text "v6")) (v6Entry l) Entry.Bad (v6-entry l) refl in
+    let four-storable = cond-passes entryStorable (same kind (text "v4")) (v4Entry l) six (v4-entry l) six-storable in
+    let name-storable = cond-passes entryStorable (isName l) (Entry.Name (length l)) Entry.Bad refl refl in
+    cond-passes entryStorable (same kind (text "name")) (nameEntry l) four name-storable four-storable
 
 -- entries of a PLMN keep no address
-home-entry : (o : Option Plmn) → entryHeld (homeEntry o) ≡ true
-unfolding homeEntry entryHeld
+home-entry : (o : Option Plmn) → entryStorable (homeEntry o) ≡ true
+unfolding homeEntry entryStorable
 home-entry none = refl
 home-entry (some p) = refl
 
-bar-entry : (o : Option Plmn) → entryHeld (barEntry o) ≡ true
-unfolding barEntry entryHeld
+bar-entry : (o : Option Plmn) → entryStorable (barEntry o) ≡ true
+unfolding barEntry entryStorable
 bar-entry none = refl
 bar-entry (some p) = refl
 
-plmn-entry : (o : Option Plmn) (r : Option ℕ) → entryHeld (plmnEntry o r) ≡ true
-unfolding plmnEntry entryHeld
+plmn-entry : (o : Option Plmn) (r : Option ℕ) → entryStorable (plmnEntry o r) ≡ true
+unfolding plmnEntry entryStorable
 plmn-entry none r = refl
 plmn-entry (some p) none = refl
 plmn-entry (some p) (some n) = refl
 
 -- every entry fits, whatever its fields
-three-fields : (w a b : List ℕ) → entryHeld (three w a b) ≡ true
-unfolding three entryHeld
+three-fields : (w a b : List ℕ) → entryStorable (three w a b) ≡ true
+unfolding three entryStorable
 three-fields w a b =
     let o = plmnOf a b in
     let node = cond (same w (text "node")) (nodeEntry a b) Entry.Bad in
     let bar = cond (same w (text "bar")) (barEntry o) node in
-    let node-held = cond-passes entryHeld (same w (text "node")) (nodeEntry a b) Entry.Bad (node-entry a b) refl in
-    let bar-held = cond-passes entryHeld (same w (text "bar")) (barEntry o) node (bar-entry o) node-held in
-    cond-passes entryHeld (same w (text "home")) (homeEntry o) bar (home-entry o) bar-held
+    let node-storable = cond-passes entryStorable (same w (text "node")) (nodeEntry a b) Entry.Bad (node-entry a b) refl in
+    let bar-storable = cond-passes entryStorable (same w (text "bar")) (barEntry o) node (bar-entry o) node-storable in
+    cond-passes entryStorable (same w (text "home")) (homeEntry o) bar (home-entry o) bar-storable
 
-by-fields : (fs : List (List ℕ)) → entryHeld (entryOf fs) ≡ true
-unfolding entryOf four entryHeld
+by-fields : (fs : List (List ℕ)) → entryStorable (entryOf fs) ≡ true
+unfolding entryOf four entryStorable
 by-fields [] = refl
 by-fields ([] ∷ []) = refl
 by-fields ((c ∷ l) ∷ []) = refl
@@ -145,24 +145,24 @@ by-fields (a ∷ b ∷ c ∷ []) = three-fields a b c
 by-fields (a ∷ b ∷ c ∷ d ∷ []) =
     let o = plmnOf b c in
     let n = priorityOf d in
-    cond-passes entryHeld (same a (text "plmn")) (plmnEntry o n) Entry.Bad (plmn-entry o n) refl
+    cond-passes entryStorable (same a (text "plmn")) (plmnEntry o n) Entry.Bad (plmn-entry o n) refl
 by-fields (a ∷ b ∷ c ∷ d ∷ e ∷ fs) = refl
 
-last-entry : (l : List ℕ) → entryHeld (lastEntry l) ≡ true
-unfolding lastEntry entryHeld
+last-entry : (l : List ℕ) → entryStorable (lastEntry l) ≡ true
+unfolding lastEntry entryStorable
 last-entry [] = refl
 last-entry (c ∷ l) = refl
 
 -- every entry of a text fits
-every-entry : (ls : List (List ℕ)) → allOf entryHeld (entries ls) ≡ true
+every-entry : (ls : List (List ℕ)) → allOf entryStorable (entries ls) ≡ true
 unfolding entries lineEntry allOf
 every-entry [] = refl
-every-entry (l ∷ []) = and-true (entryHeld (lastEntry l)) true (last-entry l) refl
-every-entry (l ∷ m ∷ ls) = and-true (entryHeld (lineEntry l)) (allOf entryHeld (entries (m ∷ ls))) (by-fields (pieces 9 l)) (every-entry (m ∷ ls))
+every-entry (l ∷ []) = and-true (entryStorable (lastEntry l)) true (last-entry l) refl
+every-entry (l ∷ m ∷ ls) = and-true (entryStorable (lineEntry l)) (allOf entryStorable (entries (m ∷ ls))) (by-fields (pieces 9 l)) (every-entry (m ∷ ls))
 
 -- `node` comes from an entry
-from-entry : (at : ℕ) (e : Entry) → entryHeld e ≡ true → nodeHeld (nodeOr (asNode at e)) ≡ true
-unfolding entryHeld nodeHeld nodeOr asNode
+from-entry : (at : ℕ) (e : Entry) → entryStorable e ≡ true → nodeStorable (nodeOr (asNode at e)) ≡ true
+unfolding entryStorable nodeStorable nodeOr asNode
 from-entry at (Entry.Home p) h = refl
 from-entry at (Entry.Name n) h = refl
 from-entry at (Entry.Node a) h = h
@@ -171,31 +171,31 @@ from-entry at (Entry.Bar p) h = refl
 from-entry at Entry.End h = refl
 from-entry at Entry.Bad h = refl
 
-from-entries : (at : ℕ) (es : List Entry) → allOf entryHeld es ≡ true → nodeHeld (firstNode at es) ≡ true
-unfolding firstNode allOf nodeHeld
+from-entries : (at : ℕ) (es : List Entry) → allOf entryStorable es ≡ true → nodeStorable (firstNode at es) ≡ true
+unfolding firstNode allOf nodeStorable
 from-entries at [] h = refl
-from-entries at (e ∷ es) h = from-entry at e (and-left (entryHeld e) (allOf entryHeld es) h)
+from-entries at (e ∷ es) h = from-entry at e (and-left (entryStorable e) (allOf entryStorable es) h)
 
 -- the settings keep that `node`
-settled : (h : Plmn) (n : Node) (es : List Entry) → nodeHeld n ≡ true → settingsHeld (settle h n es) ≡ true
-unfolding settle settingsHeld
-settled h n es held =
-    let ps = run (asListed false) es in
-    let bs = run (asListed true) (rest (asListed false) es) in
-    cond-passes settingsHeld (accepted (map plmnIn ps) && accepted (map plmnIn bs) && isEnd (rest (asListed true) (rest (asListed false) es)))
-    (some (record { home = h; node = n; plmns = ps; bars = map plmnIn bs })) none held refl
+settled : (h : Plmn) (n : Node) (es : List Entry) → nodeStorable n ≡ true → settingsStorable (settle h n es) ≡ true
+unfolding settle settingsStorable
+settled h n es storable =
+    let ps = section (asListed false) es in
+    let bs = section (asListed true) (rest (asListed false) es) in
+    cond-passes settingsStorable (accepted (map plmnIn ps) && accepted (map plmnIn bs) && isEnd (rest (asListed true) (rest (asListed false) es)))
+    (some (record { home = h; node = n; plmns = ps; bars = map plmnIn bs })) none storable refl
 
-behind-home : (o : Option Plmn) (at : ℕ) (es : List Entry) → allOf entryHeld es ≡ true → settingsHeld (withHome o at es) ≡ true
-unfolding withHome settingsHeld
+behind-home : (o : Option Plmn) (at : ℕ) (es : List Entry) → allOf entryStorable es ≡ true → settingsStorable (withHome o at es) ≡ true
+unfolding withHome settingsStorable
 behind-home none at es h = refl
 behind-home (some p) at es h = settled p (firstNode at es) (afterNode at es) (from-entries at es h)
 
-whole-text : (at : ℕ) (es : List Entry) → allOf entryHeld es ≡ true → settingsHeld (fromHome at es) ≡ true
-unfolding fromHome settingsHeld allOf
+whole-text : (at : ℕ) (es : List Entry) → allOf entryStorable es ≡ true → settingsStorable (fromHome at es) ≡ true
+unfolding fromHome settingsStorable allOf
 whole-text at [] h = refl
-whole-text at (e ∷ es) h = behind-home (asHome e) at es (and-right (entryHeld e) (allOf entryHeld es) h)
+whole-text at (e ∷ es) h = behind-home (asHome e) at es (and-right (entryStorable e) (allOf entryStorable es) h)
 
 -- whatever a configuration text says
-pub config-held : (l : List ℕ) → settingsHeld (configOf l) ≡ true
+pub config-storable : (l : List ℕ) → settingsStorable (configOf l) ≡ true
 unfolding configOf entriesFrom
-config-held l = whole-text (namePlace l) (entriesFrom l 0) (every-entry (pieces 10 l))
+config-storable l = whole-text (namePlace l) (entriesFrom l 0) (every-entry (pieces 10 l))

@@ -6,10 +6,11 @@ use mathlib.Core.Path.{_≡_, refl, sym, ap, _∙_}
 use lib.Dec.{ltb}
 use Rattle.octets.specs.Part.{same}
 use Rattle.octets.proofs.Search.{and-left, and-right}
+use Rattle.octets.specs.Row.{isSome}
 use Rattle.address.specs.declared.Address.{Address}
-use Rattle.addresses.specs.Laws.{addressHeld}
+use Rattle.addresses.specs.Laws.{addressStorable}
 use Rattle.phase.specs.Facts.{factsFit}
-use Rattle.phase.specs.Laws.{phaseHeld, turnHeld}
+use Rattle.phase.specs.Laws.{phaseStorable, turnStorable}
 use Rattle.phase.specs.Phase.{isAbroad, phaseFits}
 use Rattle.phase.specs.declared.Phase.{Phase}
 use Rattle.phase.specs.declared.Phase.the-variants.{Idle, Country, Name, Chosen, Init, Auth, Eap, Sure, Live}
@@ -19,7 +20,6 @@ use Rattle.place.specs.declared.Facts.{Facts}
 use Rattle.record.specs.Sound.{chosen, isIdle, isLive}
 use Rattle.text.specs.Text.{text}
 use Rattle.rules.specs.Phases.{factsIn, isIn, owed, turnIn, word}
-use Rattle.rules.specs.Refusals.{isSome}
 
 -- a phase that passes a test which no live line passes
 pub not-live : (t : Phase → Bool) → ((a : Address) → t (Live a) ≡ false) → (p : Phase) → t p ≡ true → isLive p ≡ false
@@ -68,17 +68,17 @@ module _ (p : Phase) (a : Address) (e : chosen p ≡ some a) where
   chosen-busy = not-idle (λ q. isSome (chosen q)) refl p (ap isSome e)
 
 -- the chosen address fits its octets
-pub chosen-held : (p : Phase) (a : Address) → chosen p ≡ some a → phaseHeld p ≡ true → addressHeld a ≡ true
-unfolding chosen phaseHeld
-chosen-held Idle a e h = cc
-chosen-held (Country f) a e h = cc
-chosen-held (Name f) a e h = cc
-chosen-held (Chosen b) a e h = cc
-chosen-held (Init b) a e h = cc
-chosen-held (Auth b) a e h = cc
-chosen-held (Eap b t) a e h = let k = and-left (addressHeld b) (turnHeld t) h in cc
-chosen-held (Sure b) a e h = cc
-chosen-held (Live b) a e h = cc
+pub chosen-storable : (p : Phase) (a : Address) → chosen p ≡ some a → phaseStorable p ≡ true → addressStorable a ≡ true
+unfolding chosen phaseStorable
+chosen-storable Idle a e h = cc
+chosen-storable (Country f) a e h = cc
+chosen-storable (Name f) a e h = cc
+chosen-storable (Chosen b) a e h = cc
+chosen-storable (Init b) a e h = cc
+chosen-storable (Auth b) a e h = cc
+chosen-storable (Eap b t) a e h = let k = and-left (addressStorable b) (turnStorable t) h in cc
+chosen-storable (Sure b) a e h = cc
+chosen-storable (Live b) a e h = cc
 
 -- only a line that isn't idle keeps place facts
 pub facts-busy : (p : Phase) (f : Facts) → factsIn p ≡ some f → isIdle p ≡ false
@@ -99,20 +99,20 @@ facts-fit (Sure a) f e h = cc
 facts-fit (Live a) f e h = cc
 
 -- an identifier that is owed is one octet
-owed-held : (t : Turn) (i : ℕ) → owed (some t) ≡ some i → turnHeld t ≡ true → ltb i 256 ≡ true
-unfolding owed turnHeld
-owed-held (First j) i e h = cc
-owed-held (Owed j) i e h = cc
-owed-held (Answered j) i e h = cc
+owed-storable : (t : Turn) (i : ℕ) → owed (some t) ≡ some i → turnStorable t ≡ true → ltb i 256 ≡ true
+unfolding owed turnStorable
+owed-storable (First j) i e h = cc
+owed-storable (Owed j) i e h = cc
+owed-storable (Answered j) i e h = cc
 
-pub identifier-held : (p : Phase) (i : ℕ) → owed (turnIn p) ≡ some i → phaseHeld p ≡ true → ltb i 256 ≡ true
-unfolding turnIn owed phaseHeld
-identifier-held Idle i e h = cc
-identifier-held (Country f) i e h = cc
-identifier-held (Name f) i e h = cc
-identifier-held (Chosen a) i e h = cc
-identifier-held (Init a) i e h = cc
-identifier-held (Auth a) i e h = cc
-identifier-held (Eap a t) i e h = owed-held t i e (and-right (addressHeld a) (turnHeld t) h)
-identifier-held (Sure a) i e h = cc
-identifier-held (Live a) i e h = cc
+pub identifier-storable : (p : Phase) (i : ℕ) → owed (turnIn p) ≡ some i → phaseStorable p ≡ true → ltb i 256 ≡ true
+unfolding turnIn owed phaseStorable
+identifier-storable Idle i e h = cc
+identifier-storable (Country f) i e h = cc
+identifier-storable (Name f) i e h = cc
+identifier-storable (Chosen a) i e h = cc
+identifier-storable (Init a) i e h = cc
+identifier-storable (Auth a) i e h = cc
+identifier-storable (Eap a t) i e h = owed-storable t i e (and-right (addressStorable a) (turnStorable t) h)
+identifier-storable (Sure a) i e h = cc
+identifier-storable (Live a) i e h = cc

@@ -16,7 +16,7 @@ use Rattle.table.specs.Slots.{slotsOf}
 use Rattle.table.specs.Table.{isTable}
 use Rattle.rules.specs.Answer.{refused}
 use Rattle.rules.specs.Call.{Event, start, country, address, begin, init, eap, reply, final, error, congestion, give-up, child-made, child-deleted, ike-delete, Call, opening, closing, listing, timed, tenantOf}
-use Rattle.rules.specs.Claims.{Left, given, roomOf}
+use Rattle.rules.specs.Claims.{Left, numberGiven, roomOf}
 use Rattle.rules.specs.Life.{current}
 use Rattle.rules.specs.Refusals.{refusalsOf, unless}
 use Rattle.rules.specs.Run.{Step, View, answerOf, bare, lineOr, run, settled, step, stepOf, timedStep, viewOf}
@@ -42,8 +42,8 @@ settled-number zero c s l e = e
 settled-number (suc n) c s l e = refused-number (suc n) c
 
 -- the number given is that of the list of refusals
-pub given-is : (c : Call) (l : List ℕ) → given c l ≡ refusal (stepOf c l .refusals)
-unfolding given run stepOf
+pub given-is : (c : Call) (l : List ℕ) → numberGiven c l ≡ refusal (stepOf c l .refusals)
+unfolding numberGiven run stepOf
 given-is c l = settled-number (refusal (stepOf c l .refusals)) c (stepOf c l) l (answers-0 c _)
 
 -- what a refused call answers
@@ -60,7 +60,7 @@ unfolding settled
 settled-left zero c s l h = absurd (h refl)
 settled-left (suc n) c s l h = refused-left (suc n) l c
 
-pub refusal-leaves : (c : Call) (l : List ℕ) → (given c l ≡ 0 → ⊥) → Left c l (run c l)
+pub refusal-leaves : (c : Call) (l : List ℕ) → (numberGiven c l ≡ 0 → ⊥) → Left c l (run c l)
 unfolding run
 refusal-leaves c l h = settled-left (refusal (stepOf c l .refusals)) c (stepOf c l) l (λ e. h (given-is c l ∙ e))
 
@@ -117,14 +117,14 @@ step-ordered (timed tenant line time e) v =
     let rest = event-ordered e (ltb 4294967295 time) (current time (lineOr (getD (v .lines) line none))) in
     ((omega arith, (omega arith, (omega arith, (omega arith, (omega arith, rest .0))))), (omega arith, (omega arith, (omega arith, (omega arith, (omega arith, rest .1))))))
 
-pub refusal-lowest : (c : Call) (l : List ℕ) (n : ℕ) → Applies n (stepOf c l .refusals) → Applies (given c l) (stepOf c l .refusals) × (given c l ≤ n)
+pub refusal-lowest : (c : Call) (l : List ℕ) (n : ℕ) → Applies n (stepOf c l .refusals) → Applies (numberGiven c l) (stepOf c l .refusals) × (numberGiven c l ≤ n)
 unfolding stepOf
 refusal-lowest c l n a =
     subst (λ (k : ℕ). Applies k (stepOf c l .refusals) × (k ≤ n)) (sym (given-is c l)) (Refusals.refusal-lowest 0 (stepOf c l .refusals) (step-ordered c (viewOf (isTable l) (tenantOf c) (slotsOf l)) .0) n a)
 
-pub refusal-none : (c : Call) (l : List ℕ) → ((n : ℕ) → Applies n (stepOf c l .refusals) → ⊥) → given c l ≡ 0
+pub refusal-none : (c : Call) (l : List ℕ) → ((n : ℕ) → Applies n (stepOf c l .refusals) → ⊥) → numberGiven c l ≡ 0
 refusal-none c l h = given-is c l ∙ Refusals.refusal-none (stepOf c l .refusals) h
 
-pub refusal-range : (c : Call) (l : List ℕ) → given c l ≤ 13
+pub refusal-range : (c : Call) (l : List ℕ) → numberGiven c l ≤ 13
 unfolding stepOf
 refusal-range c l = subst (λ (k : ℕ). k ≤ 13) (sym (given-is c l)) (within-range 13 (stepOf c l .refusals) (step-ordered c (viewOf (isTable l) (tenantOf c) (slotsOf l)) .1))

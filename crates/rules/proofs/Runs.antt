@@ -11,20 +11,20 @@ use lib.ListN.{getD, set}
 use borrow.Author.Tests.{eq-eqb, ne-eqb, le-ltb}
 use Rattle.octets.specs.Part.{padded, zeros}
 use Rattle.octets.specs.Refusal.{_when_, refusal}
-use Rattle.octets.specs.Row.{row}
+use Rattle.octets.specs.Row.{row, isSome}
 use Rattle.octets.specs.Search.{allOf}
 use Rattle.octets.proofs.Rows.{row-set}
 use Rattle.octets.proofs.Search.{either}
 use Rattle.record.specs.Line.{Line}
-use Rattle.table.specs.Slots.{Free, hasLine, lineAt, pairIn, slotLine, slotOctets, slotsOf}
+use Rattle.table.specs.Slots.{Free, lineAt, pairIn, slotLine, slotOctets, slotsOf}
 use Rattle.table.specs.Table.{isTable, recordOf, slot}
 use Rattle.table.proofs.Stored as Stored
 use Rattle.rules.specs.Call.{Call, opening, closing, listing, lentOctets, pairOf, tenantOf}
-use Rattle.rules.specs.Claims.{Good, given, lineIn}
+use Rattle.rules.specs.Claims.{Good, numberGiven, lineIn}
 use Rattle.rules.specs.Histories.{isOctets}
 use Rattle.rules.specs.Listing.{listFrom}
 use Rattle.rules.specs.Run.{Result, Step, applied, fresh, isNoPair, ownLine, run, settled, step, stepOf, viewOf}
-use Rattle.rules.specs.Slots.{runOn, settledOn}
+use Rattle.rules.specs.OnSlots.{runOn, settledOn}
 use Rattle.rules.proofs.Accepted.{ready, second-fails, tenant-range}
 use Rattle.rules.proofs.Acts.{Ready, act-line, applied-good, applied-slots, lineAfter}
 use Rattle.rules.proofs.Refused.{given-is}
@@ -72,7 +72,7 @@ module _ (c : Call) (l : List ℕ) (octets : isOctets c ≡ true) (good : Good l
       (both (number c l) (stepOf c l) (ready c l octets good))
 
 -- closing
-module _ (tenant line : ℕ) (l : List ℕ) (good : Good l) (e : given (closing tenant line) l ≡ 0) where
+module _ (tenant line : ℕ) (l : List ℕ) (good : Good l) (e : numberGiven (closing tenant line) l ≡ 0) where
   abbrev c : Call
   c = closing tenant line
 
@@ -85,13 +85,13 @@ module _ (tenant line : ℕ) (l : List ℕ) (good : Good l) (e : given (closing 
   closed-zero =
       let p = pairOf tenant line in
       let r = ready c l refl good closes in
-      let held = Stored.held Free (r .1) in (
-        ap (λ (x : Result). slot (x .table) (recordOf l p)) (accepted c l closes) ∙ Stored.put-here l p Free (good .sound) (r .0) held,
-        λ j apart. ap (λ (x : Result). slot (x .table) j) (accepted c l closes) ∙ Stored.put-others l p Free (good .sound) (r .0) held j apart,
+      let storable = Stored.storable Free (r .1) in (
+        ap (λ (x : Result). slot (x .table) (recordOf l p)) (accepted c l closes) ∙ Stored.put-here l p Free (good .sound) (r .0) storable,
+        λ j apart. ap (λ (x : Result). slot (x .table) j) (accepted c l closes) ∙ Stored.put-others l p Free (good .sound) (r .0) storable j apart,
       )
 
 -- opening
-module _ (tenant line : ℕ) (l : List ℕ) (good : Good l) (e : given (opening tenant line) l ≡ 0) where
+module _ (tenant line : ℕ) (l : List ℕ) (good : Good l) (e : numberGiven (opening tenant line) l ≡ 0) where
   abbrev o : Call
   o = opening tenant line
 
@@ -117,11 +117,11 @@ module _ (tenant line : ℕ) (l : List ℕ) (good : Good l) (e : given (opening 
       ∙ rw (ne-eqb (pairOf tenant line) q (λ e. apart (omega arith)), ne-eqb 0 q (λ e. omega arith))
 
 -- an accepted open has a tenant
-opened-tenant : (tenant line : ℕ) (l : List ℕ) → given (opening tenant line) l ≡ 0 → tenant ≤ 15
+opened-tenant : (tenant line : ℕ) (l : List ℕ) → numberGiven (opening tenant line) l ≡ 0 → tenant ≤ 15
 unfolding stepOf step tenantOf
 opened-tenant tenant line l e =
     let v = viewOf (isTable l) tenant (slotsOf l) in
-    let has = hasLine (getD (v .lines) line none) in
+    let has = isSome (getD (v .lines) line none) in
     tenant-range tenant line (second-fails 0 1 3 (not (v .sound)) (isNoPair tenant line) has ((6 when not (v .free)) ∷ []) (sym (given-is (opening tenant line) l) ∙ e))
 
 -- an accepted listing shows the lines of its tenant
@@ -130,7 +130,7 @@ listed-lines : (tenant room : ℕ) (l : List ℕ) → isTable l ≡ true → ten
 unfolding run settled stepOf step refusal tenantOf viewOf
 listed-lines tenant room l sound small long = rw (sound, le-ltb 15 tenant small, le-ltb room 1024 long)
 
-pub taken-over-listed : (tenant line room : ℕ) (l : List ℕ) → Good l → given (opening tenant line) l ≡ 0 → 1024 ≤ room
+pub taken-over-listed : (tenant line room : ℕ) (l : List ℕ) → Good l → numberGiven (opening tenant line) l ≡ 0 → 1024 ≤ room
     → run (listing tenant room) (run (opening tenant line) l .table) .answer .buffer
     ≡ padded room (listFrom 0 (set (row (ownLine tenant (slotsOf l)) 0 4) line (some fresh)))
 unfolding lineIn ownLine isOctets lentOctets allOf

@@ -13,9 +13,9 @@ use Rattle.octets.specs.Row.{place}
 use Rattle.octets.specs.Search.{allOf}
 use Rattle.octets.proofs.Rows.{row-passes}
 use Rattle.octets.proofs.Search.{and-left, and-right, and-true, cond-passes}
-use Rattle.address.specs.Address.{permitted, stands, versionOf}
+use Rattle.address.specs.Address.{permitted, stands, versionOf, heldAddresses}
 use Rattle.address.specs.declared.Address.{Address}
-use Rattle.addresses.specs.Laws.{addressHeld}
+use Rattle.addresses.specs.Laws.{addressStorable}
 use Rattle.addresses.proofs.RoundTrip as Addresses
 use Rattle.config.specs.Settings.{Settings}
 use Rattle.config.specs.declared.Node.{Node}
@@ -25,7 +25,7 @@ use Rattle.lists.specs.Lists.{addressAt, addressesIn}
 use Rattle.network.specs.declared.MaybePlmn.the-variants.{Is, None}
 use Rattle.network.specs.declared.Plmn.{Plmn}
 use Rattle.phase.specs.Facts.{factsFit, placeFits, registeredFits}
-use Rattle.phase.specs.Laws.{phaseHeld}
+use Rattle.phase.specs.Laws.{phaseStorable}
 use Rattle.phase.specs.Phase.{isAbroad, phaseFits}
 use Rattle.phase.specs.declared.Phase.the-variants.{Country, Name, Chosen}
 use Rattle.place.specs.declared.Facts.{Facts}
@@ -33,15 +33,15 @@ use Rattle.place.specs.declared.Place.{Place}
 use Rattle.place.specs.declared.Place.the-variants.{Unknown, Home, Abroad}
 use Rattle.preference.specs.Preference.{ranked, unranked}
 use Rattle.record.specs.Line.{Line}
-use Rattle.record.specs.Sound.{chosen, isFree, isIdle, isLive}
+use Rattle.record.specs.Sound.{chosen, chosenFree, isIdle, isLive}
 use Rattle.selection.specs.Selection as Selection
 use Rattle.selection.specs.declared.Choice.{Choice}
 use Rattle.selection.specs.declared.Choice.the-variants as Choice
-use Rattle.rules.specs.Call.{Given, factsOf, givenFits, placeOf, registeredOf}
-use Rattle.rules.specs.Life.{addressed, answered, asking, decided, found, goes, held, inPhase, started}
+use Rattle.rules.specs.Call.{StartNumbers, factsOf, startNumbersFit, placeOf, registeredOf}
+use Rattle.rules.specs.Life.{addressAnswered, countryAnswered, nameAsked, decided, gatewayFound, goes, inPhase, started}
 use Rattle.rules.specs.Phases.{factsIn}
 use Rattle.rules.proofs.Moves.{moves, rests, room-left}
-use Rattle.rules.proofs.Nodes.{nodeHeld, settingsHeld}
+use Rattle.rules.proofs.Nodes.{nodeStorable, settingsStorable}
 use Rattle.rules.proofs.Phases.{facts-busy, facts-fit}
 use Rattle.rules.proofs.Valid.{Valid}
 
@@ -51,13 +51,13 @@ allowed f (Choice.Stop n) = true
 allowed f (Choice.Country mcc) = factsFit f && isAbroad (f .place)
 allowed f (Choice.Text at n) = factsFit f
 allowed f (Choice.Network p) = factsFit f
-allowed f (Choice.Address a) = addressHeld a
+allowed f (Choice.Address a) = addressStorable a
 
 -- place facts in their ranges allow what selection chooses
-module _ (f : Facts) (s : Settings) (node : nodeHeld (s .node) ≡ true) where
+module _ (f : Facts) (s : Settings) (node : nodeStorable (s .node) ≡ true) where
   -- S2: a `node` address, a name or the home PLMN
-  by-node : (n : Node) → nodeHeld n ≡ true → factsFit f ≡ true → allowed f (Selection.byNode (s .home) n) ≡ true
-  unfolding Selection.byNode allowed nodeHeld
+  by-node : (n : Node) → nodeStorable n ≡ true → factsFit f ≡ true → allowed f (Selection.byNode (s .home) n) ≡ true
+  unfolding Selection.byNode allowed nodeStorable
   by-node Node.None h k = k
   by-node (Node.Name at n) h k = k
   by-node (Node.Address a) h k = h
@@ -103,8 +103,8 @@ record Ranged (f : Facts) : Type 0 where
   version-fits : eqb (f .version) 4 || eqb (f .version) 6 ≡ true
 
 -- the numbers of a start that aren't refused by 8
-given-ranged : (g : Given) → givenFits g ≡ true → Ranged (factsOf g)
-unfolding givenFits factsOf placeOf registeredOf known placeFits registeredFits
+given-ranged : (g : StartNumbers) → startNumbersFit g ≡ true → Ranged (factsOf g)
+unfolding startNumbersFit factsOf placeOf registeredOf known placeFits registeredFits
 given-ranged g h =
     let mcc : leb (g .mcc) 999 ≡ true = search (and-left, and-right) depth 9 in
     let first : leb (g .registeredMcc) 999 ≡ true = search (and-left, and-right) depth 9 in
@@ -119,7 +119,7 @@ given-ranged g h =
       version-fits = search (and-left, and-right) depth 9;
     }
 
-module _ (f : Facts) (r : Ranged f) (s : Settings) (node : nodeHeld (s .node) ≡ true) where
+module _ (f : Facts) (r : Ranged f) (s : Settings) (node : nodeStorable (s .node) ≡ true) where
   place-fits : placeFits (f .place) ≡ true → factsFit f ≡ true
   unfolding factsFit
   place-fits h = rw (h, r .registered-fits, r .version-fits)
@@ -142,62 +142,62 @@ module _ (x : Line) (v : Valid x) (calm : isLive (x .phase) ≡ false) where
     -- S5: what is chosen is permitted
     module _ (version : ℕ) where
       abbrev p : Address → Bool
-      p = permitted version (held x)
+      p = permitted version (heldAddresses (x .holds))
 
-      permitted-valid : (a : Address) → addressHeld a ≡ true → p a ≡ true → Valid (inPhase x (Chosen a))
-      unfolding permitted held phaseFits phaseHeld isIdle isFree chosen
+      permitted-valid : (a : Address) → addressStorable a ≡ true → p a ≡ true → Valid (inPhase x (Chosen a))
+      unfolding permitted phaseFits phaseStorable isIdle chosenFree chosen
       permitted-valid a h e =
-          moves x v calm (Chosen a) (record { fits = refl; held = h }) room (and-right (eqb (versionOf a) version) (not (stands a (held x))) e)
+          moves x v calm (Chosen a) (record { fits = refl; storable = h }) room (and-right (eqb (versionOf a) version) (not (stands a (heldAddresses (x .holds)))) e)
 
       -- the first address that is permitted, or none
-      found-valid : (k : ℕ) (l : List Address) → allOf addressHeld l ≡ true → Valid (found x (foundAt k (drop (place p l) l)) .line)
-      unfolding place foundAt found goes allOf
+      found-valid : (k : ℕ) (l : List Address) → allOf addressStorable l ≡ true → Valid (gatewayFound x (foundAt k (drop (place p l) l)) .line)
+      unfolding place foundAt gatewayFound goes allOf
       found-valid k [] h = rests x v calm
-      found-valid k (a ∷ l) h = go (p a) refl (found-valid k l (and-right (addressHeld a) (allOf addressHeld l) h))
+      found-valid k (a ∷ l) h = go (p a) refl (found-valid k l (and-right (addressStorable a) (allOf addressStorable l) h))
         where
-          go : (t : Bool) → p a ≡ t → Valid (found x (foundAt k (drop (place p l) l)) .line)
-              → Valid (found x (foundAt k (drop (cond t 0 (suc (place p l))) (a ∷ l))) .line)
-          go true e rest = permitted-valid a (and-left (addressHeld a) (allOf addressHeld l) h) e
+          go : (t : Bool) → p a ≡ t → Valid (gatewayFound x (foundAt k (drop (place p l) l)) .line)
+              → Valid (gatewayFound x (foundAt k (drop (cond t 0 (suc (place p l))) (a ∷ l))) .line)
+          go true e rest = permitted-valid a (and-left (addressStorable a) (allOf addressStorable l) h) e
           go false e rest = rest
 
-      choose-valid : (l : List Address) → allOf addressHeld l ≡ true → Valid (found x (choose version (held x) l) .line)
+      choose-valid : (l : List Address) → allOf addressStorable l ≡ true → Valid (gatewayFound x (choose version (heldAddresses (x .holds)) l) .line)
       unfolding choose
       choose-valid l h = found-valid (place p l) l h
 
     -- S1 to S4
     decided-valid : (f : Facts) (text : List ℕ) (c : Choice) → allowed f c ≡ true → Valid (decided x f text c .line)
-    unfolding decided goes asking allowed phaseFits phaseHeld isIdle isFree chosen allOf
+    unfolding decided goes nameAsked allowed phaseFits phaseStorable isIdle chosenFree chosen allOf
     decided-valid f text (Choice.Stop n) h = rests x v calm
-    decided-valid f text (Choice.Country mcc) h = moves x v calm (Country f) (record { fits = h; held = refl }) room refl
-    decided-valid f text (Choice.Text at n) h = moves x v calm (Name f) (record { fits = h; held = refl }) room refl
-    decided-valid f text (Choice.Network n) h = moves x v calm (Name f) (record { fits = h; held = refl }) room refl
-    decided-valid f text (Choice.Address a) h = choose-valid (f .version) (a ∷ []) (and-true (addressHeld a) true h refl)
+    decided-valid f text (Choice.Country mcc) h = moves x v calm (Country f) (record { fits = h; storable = refl }) room refl
+    decided-valid f text (Choice.Text at n) h = moves x v calm (Name f) (record { fits = h; storable = refl }) room refl
+    decided-valid f text (Choice.Network n) h = moves x v calm (Name f) (record { fits = h; storable = refl }) room refl
+    decided-valid f text (Choice.Address a) h = choose-valid (f .version) (a ∷ []) (and-true (addressStorable a) true h refl)
 
     -- start, by the lent text
-    pub started-valid : (g : Given) → givenFits g ≡ true → (text : List ℕ) (o : Option Settings) → settingsHeld o ≡ true
+    pub started-valid : (g : StartNumbers) → startNumbersFit g ≡ true → (text : List ℕ) (o : Option Settings) → settingsStorable o ≡ true
         → Valid (started x (factsOf g) text o .line)
-    unfolding started goes settingsHeld
+    unfolding started goes settingsStorable
     started-valid g fits text none h = rests x v calm
     started-valid g fits text (some s) h =
         decided-valid (factsOf g) text (Selection.start s (factsOf g)) (start-allowed (factsOf g) (given-ranged g fits) s h)
 
   -- the country answer, where the line keeps place facts
-  pub answered-valid : (o : Option Facts) → factsIn (x .phase) ≡ o → (ps : Option (List Plmn)) (text : List ℕ) (s : Option Settings) → settingsHeld s ≡ true
-      → Valid (answered x o ps text s .line)
-  unfolding answered goes settingsHeld
+  pub answered-valid : (o : Option Facts) → factsIn (x .phase) ≡ o → (ps : Option (List Plmn)) (text : List ℕ) (s : Option Settings) → settingsStorable s ≡ true
+      → Valid (countryAnswered x o ps text s .line)
+  unfolding countryAnswered goes settingsStorable
   answered-valid none e ps text s h = rests x v calm
   answered-valid (some f) e ps text none h = rests x v calm
   answered-valid (some f) e ps text (some s) h =
       decided-valid (room-left x v calm (facts-busy (x .phase) f e)) f text (Selection.country s f ps) (country-allowed f s h (facts-fit (x .phase) f e (v .phase-valid .fits)) ps)
 
   -- the address answer
-  pub addressed-valid : (o : Option Facts) → factsIn (x .phase) ≡ o → (l : List Address) → allOf addressHeld l ≡ true → Valid (addressed x o l .line)
-  unfolding addressed goes
+  pub addressed-valid : (o : Option Facts) → factsIn (x .phase) ≡ o → (l : List Address) → allOf addressStorable l ≡ true → Valid (addressAnswered x o l .line)
+  unfolding addressAnswered goes
   addressed-valid none e l h = rests x v calm
   addressed-valid (some f) e l h = choose-valid (room-left x v calm (facts-busy (x .phase) f e)) (f .version) l h
 
 -- every address of a lent list fits its octets
-pub addresses-held : (l : List ℕ) → allOf (below 256) l ≡ true → allOf addressHeld (addressesIn l) ≡ true
+pub addresses-storable : (l : List ℕ) → allOf (below 256) l ≡ true → allOf addressStorable (addressesIn l) ≡ true
 unfolding addressesIn addressAt
-addresses-held l octets =
-    row-passes (addressAt l) addressHeld 0 (length l / 17) (λ i h. Addresses.held l (17 * i) octets (omega (arith, div-mul-le-self (length l) 17)))
+addresses-storable l octets =
+    row-passes (addressAt l) addressStorable 0 (length l / 17) (λ i h. Addresses.storable l (17 * i) octets (omega (arith, div-mul-le-self (length l) 17)))

@@ -9,6 +9,7 @@ use lib.Dec.{eqb, ltb}
 use lib.ListN.{getD}
 use borrow.Author.Tests.{eq-eqb}
 use Rattle.octets.specs.Refusal.{refusal}
+use Rattle.address.specs.Address.{heldAddresses}
 use Rattle.address.specs.declared.Address.{Address}
 use Rattle.config.specs.Settings.{Settings, configOf}
 use Rattle.gateway.specs.Gateway.{choose}
@@ -18,16 +19,16 @@ use Rattle.lists.specs.Lists.{addressesIn, networksIn}
 use Rattle.place.specs.declared.Facts.{Facts}
 use Rattle.record.specs.Line.{Line}
 use Rattle.selection.specs.Selection as Selection
-use Rattle.selection.specs.Stops.{Ends, Exactly, addresses, countryStep, startStep, stopFound, stopOf}
+use Rattle.selection.specs.Stops.{Ends, Exactly, addresses, countryReached, startReached, stopFound, stopOf}
 use Rattle.selection.specs.declared.Choice.{Choice}
 use Rattle.selection.specs.declared.Choice.the-variants as Choice
 use Rattle.selection.proofs.Ends.{stops-exactly}
 use Rattle.table.specs.Slots.{lineAt, pairIn, slotLine, slotsOf}
 use Rattle.table.specs.Table.{isTable}
 use Rattle.rules.specs.Answer.{numbersOf, twelve}
-use Rattle.rules.specs.Call.{Given, Event, start, country, address, Call, timed, factsOf, pairOf, tenantOf}
+use Rattle.rules.specs.Call.{StartNumbers, Event, start, country, address, Call, timed, factsOf, pairOf, tenantOf}
 use Rattle.rules.specs.Claims.{Timed, lineIn, stopSaid}
-use Rattle.rules.specs.Life.{Outcome, addressed, answered, asking, current, decided, found, goes, held, outcome, started}
+use Rattle.rules.specs.Life.{Outcome, addressAnswered, countryAnswered, nameAsked, current, decided, gatewayFound, goes, outcome, started}
 use Rattle.rules.specs.Phases.{factsIn}
 use Rattle.rules.specs.Refusals.{refusalsOf}
 use Rattle.rules.specs.Run.{Result, Step, View, answerOf, lineOr, run, step, stepOf, timedStep, viewOf}
@@ -80,57 +81,57 @@ module _ (tenant line time : ℕ) (e : Event) (l : List ℕ) (x : Line) (t : Tim
 
 -- where an outcome's answer says that selection stopped
 module _ (e : Event) (x : Line) where
-  found-stop : (f : Found) → stopSaid (answerOf e (found x f)) ≡ stopFound f
-  unfolding stopSaid answerOf found goes numbersOf twelve stopFound
+  found-stop : (f : Found) → stopSaid (answerOf e (gatewayFound x f)) ≡ stopFound f
+  unfolding stopSaid answerOf gatewayFound goes numbersOf twelve stopFound
   found-stop (Found.Chosen a k) = refl
   found-stop (Found.Nothing k) = refl
 
-  decided-stop : (f : Facts) (text : List ℕ) (choice : Choice) → stopSaid (answerOf e (decided x f text choice)) ≡ stopOf (f .version) (held x) choice
-  unfolding stopSaid answerOf decided goes asking numbersOf twelve stopOf
+  decided-stop : (f : Facts) (text : List ℕ) (choice : Choice) → stopSaid (answerOf e (decided x f text choice)) ≡ stopOf (f .version) (heldAddresses (x .holds)) choice
+  unfolding stopSaid answerOf decided goes nameAsked numbersOf twelve stopOf
   decided-stop f text (Choice.Stop n) = refl
   decided-stop f text (Choice.Country mcc) = refl
   decided-stop f text (Choice.Text at n) = refl
   decided-stop f text (Choice.Network p) = refl
-  decided-stop f text (Choice.Address a) = found-stop (choose (f .version) (held x) (a ∷ []))
+  decided-stop f text (Choice.Address a) = found-stop (choose (f .version) (heldAddresses (x .holds)) (a ∷ []))
 
 -- a claim about what is said, from one about what the definitions stop at
 carried : {ends : ℕ → Type 0} {said stop : Option ℕ} → said ≡ stop → Exactly ends stop → Exactly ends said
 carried {ends} q h = subst (λ (o : Option ℕ). Exactly ends o) (sym q) h
 
 module _ (tenant line time : ℕ) (l : List ℕ) (x : Line) (s : Settings) where
-  pub stops-start : (g : Given) (text : List ℕ) (room : ℕ) → Timed tenant line time (start g text room) l x → configOf text ≡ some s
-      → Exactly (Ends s (g .version) (held (current time x)) (startStep s (factsOf g .place))) (stopSaid (run (timed tenant line time (start g text room)) l .answer))
+  pub stops-start : (g : StartNumbers) (text : List ℕ) (room : ℕ) → Timed tenant line time (start g text room) l x → configOf text ≡ some s
+      → Exactly (Ends s (g .version) (heldAddresses (current time x .holds)) (startReached s (factsOf g .place))) (stopSaid (run (timed tenant line time (start g text room)) l .answer))
   unfolding outcome started factsOf
   stops-start g text room t q =
       let e = start g text room in
       let y = current time x in
       carried
       (ap stopSaid (timed-run tenant line time e l x t .0) ∙ ap (λ (o : Option Settings). stopSaid (answerOf e (started y (factsOf g) text o))) q ∙ decided-stop e y (factsOf g) text (Selection.start s (factsOf g)))
-      (stops-exactly .at-start s (factsOf g) (held y))
+      (stops-exactly .at-start s (factsOf g) (heldAddresses (y .holds)))
 
   module _ (f : Facts) (facts : factsIn (x .phase) ≡ some f) where
     pub stops-country : (replied : ℕ) (networks text : List ℕ) (room : ℕ) → Timed tenant line time (country replied networks text room) l x → configOf text ≡ some s
-        → Exactly (Ends s (f .version) (held (current time x)) (countryStep s (f .place) (Selection.answered (eqb replied 1) (networksIn networks))))
+        → Exactly (Ends s (f .version) (heldAddresses (current time x .holds)) (countryReached s (f .place) (Selection.countryReply (eqb replied 1) (networksIn networks))))
         (stopSaid (run (timed tenant line time (country replied networks text room)) l .answer))
-    unfolding outcome answered current
+    unfolding outcome countryAnswered current
     stops-country replied networks text room t q =
         let e = country replied networks text room in
         let y = current time x in
-        let ps = Selection.answered (eqb replied 1) (networksIn networks) in
+        let ps = Selection.countryReply (eqb replied 1) (networksIn networks) in
         carried
         (ap stopSaid (timed-run tenant line time e l x t .0)
-        ∙ ap (λ (o : Option Facts). stopSaid (answerOf e (answered y o ps text (configOf text)))) facts
-        ∙ ap (λ (o : Option Settings). stopSaid (answerOf e (answered y (some f) ps text o))) q
+        ∙ ap (λ (o : Option Facts). stopSaid (answerOf e (countryAnswered y o ps text (configOf text)))) facts
+        ∙ ap (λ (o : Option Settings). stopSaid (answerOf e (countryAnswered y (some f) ps text o))) q
         ∙ decided-stop e y f text (Selection.country s f ps))
-        (stops-exactly .at-country s f (held y) ps)
+        (stops-exactly .at-country s f (heldAddresses (y .holds)) ps)
 
     pub stops-address : (list : List ℕ) → Timed tenant line time (address list) l x
-        → Exactly (Ends s (f .version) (held (current time x)) (addresses (addressesIn list))) (stopSaid (run (timed tenant line time (address list)) l .answer))
-    unfolding outcome addressed current
+        → Exactly (Ends s (f .version) (heldAddresses (current time x .holds)) (addresses (addressesIn list))) (stopSaid (run (timed tenant line time (address list)) l .answer))
+    unfolding outcome addressAnswered current
     stops-address list t =
         let e = address list in
         let y = current time x in
         carried
-        (ap stopSaid (timed-run tenant line time e l x t .0) ∙ ap (λ (o : Option Facts). stopSaid (answerOf e (addressed y o (addressesIn list)))) facts
-        ∙ found-stop e y (choose (f .version) (held y) (addressesIn list)))
-        (stops-exactly .at-address s (f .version) (held y) (addressesIn list))
+        (ap stopSaid (timed-run tenant line time e l x t .0) ∙ ap (λ (o : Option Facts). stopSaid (answerOf e (addressAnswered y o (addressesIn list)))) facts
+        ∙ found-stop e y (choose (f .version) (heldAddresses (y .holds)) (addressesIn list)))
+        (stops-exactly .at-address s (f .version) (heldAddresses (y .holds)) (addressesIn list))

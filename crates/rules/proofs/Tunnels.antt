@@ -13,6 +13,7 @@ use Rattle.octets.specs.Row.{keep, only}
 use Rattle.octets.specs.Search.{anyOf, distinct}
 use Rattle.octets.proofs.Refusals.{refusal-step}
 use Rattle.octets.proofs.Search.{and-left, and-right, or-left, or-other, or-right}
+use Rattle.address.specs.Address.{heldAddresses}
 use Rattle.children.specs.Children.{hasSpi, isSpi, sameSpi, spisDiffer}
 use Rattle.children.specs.declared.Child.{Child}
 use Rattle.config.specs.Settings.{Settings, configOf}
@@ -33,11 +34,11 @@ use Rattle.selection.specs.declared.Choice.{Choice}
 use Rattle.selection.specs.declared.Choice.the-variants as Choice
 use Rattle.rules.specs.Call.{Event, start, country, address, begin, init, eap, reply, final, error, congestion, give-up, child-made, child-deleted, ike-delete, timed, factsOf, pairOf}
 use Rattle.rules.specs.Claims.{Good, Timed, childrenAfter, lineIn}
-use Rattle.rules.specs.Life.{addressed, answered, asking, becomes, congested, current, decided, finished, found, goes, held, inPhase, isOther, keeps, outcome, packetTaken, replied, started, withChildren}
+use Rattle.rules.specs.Life.{addressAnswered, countryAnswered, nameAsked, becomes, congested, current, decided, finished, gatewayFound, goes, inPhase, isOther, keeps, outcome, packetTaken, replied, started, withChildren}
 use Rattle.rules.specs.Phases.{factsIn, isIn, owed, turnIn}
 use Rattle.rules.specs.Refusals.{badChild, refusalsOf, unless}
 use Rattle.rules.specs.Run.{run}
-use Rattle.rules.proofs.Accepted.{found-held, found-sound}
+use Rattle.rules.proofs.Accepted.{found-storable, found-sound}
 use Rattle.rules.proofs.Phases.{live-is}
 use Rattle.rules.proofs.Timed.{no-ground, timed-run}
 use Rattle.rules.proofs.Valid.{Valid, valid-of}
@@ -51,7 +52,7 @@ line-valid : (tenant line : ℕ) (l : List ℕ) (x : Line) → Good l → lineIn
 unfolding lineIn pairOf
 line-valid tenant line l x good e =
     let p = pairOf tenant line in
-    valid-of x (found-sound l good p (omega arith) x e) (found-held l good p (omega arith) x e)
+    valid-of x (found-sound l good p (omega arith) x e) (found-storable l good p (omega arith) x e)
 
 pub tunnels-live : (tenant line : ℕ) (l : List ℕ) (x : Line) → Good l → lineIn l tenant line ≡ some x → isIn "live" (x .phase) ≡ false → x .children ≡ []
 tunnels-live tenant line l x good e h =
@@ -59,26 +60,26 @@ tunnels-live tenant line l x good e h =
     none-left (x .children) (leb-true (length (x .children)) 0 (or-other (isLive (x .phase)) few (line-valid tenant line l x good e .children-valid .on-live) (sym (live-is (x .phase)) ∙ h)))
 
 module _ (x : Line) where
-  found-children : (f : Found) → found x f .line .children ≡ x .children
-  unfolding found goes inPhase
+  found-children : (f : Found) → gatewayFound x f .line .children ≡ x .children
+  unfolding gatewayFound goes inPhase
   found-children (Found.Chosen a k) = refl
   found-children (Found.Nothing k) = refl
 
   decided-children : (f : Facts) (t : List ℕ) (c : Choice) → decided x f t c .line .children ≡ x .children
-  unfolding decided goes asking inPhase
+  unfolding decided goes nameAsked inPhase
   decided-children f t (Choice.Stop n) = refl
   decided-children f t (Choice.Country mcc) = refl
   decided-children f t (Choice.Text at n) = refl
   decided-children f t (Choice.Network p) = refl
-  decided-children f t (Choice.Address a) = found-children (choose (f .version) (held x) (a ∷ []))
+  decided-children f t (Choice.Address a) = found-children (choose (f .version) (heldAddresses (x .holds)) (a ∷ []))
 
   started-children : (f : Facts) (t : List ℕ) (o : Option Settings) → started x f t o .line .children ≡ x .children
   unfolding started goes inPhase
   started-children f t none = refl
   started-children f t (some s) = decided-children f t (Selection.start s f)
 
-  answered-children : (o : Option Facts) (ps : Option (List Plmn)) (t : List ℕ) (s : Option Settings) → answered x o ps t s .line .children ≡ x .children
-  unfolding answered goes inPhase
+  answered-children : (o : Option Facts) (ps : Option (List Plmn)) (t : List ℕ) (s : Option Settings) → countryAnswered x o ps t s .line .children ≡ x .children
+  unfolding countryAnswered goes inPhase
   answered-children none ps t s = refl
   answered-children (some f) ps t none = refl
   answered-children (some f) ps t (some s) = decided-children f t (Selection.country s f ps)
@@ -92,10 +93,10 @@ module _ (x : Line) where
   packet-children packet (Stop i) = refl
   packet-children packet Other = refl
 
-  addressed-children : (o : Option Facts) (list : List ℕ) → addressed x o (addressesIn list) .line .children ≡ x .children
-  unfolding addressed goes inPhase
+  addressed-children : (o : Option Facts) (list : List ℕ) → addressAnswered x o (addressesIn list) .line .children ≡ x .children
+  unfolding addressAnswered goes inPhase
   addressed-children none list = refl
-  addressed-children (some f) list = found-children (choose (f .version) (held x) (addressesIn list))
+  addressed-children (some f) list = found-children (choose (f .version) (heldAddresses (x .holds)) (addressesIn list))
 
   replied-children : (parameters nas : List ℕ) (o : Option ℕ) → replied x parameters nas o .line .children ≡ x .children
   unfolding replied goes inPhase
@@ -110,7 +111,7 @@ module _ (x : Line) where
 pub tunnels-after : (e : Event) (x : Line) → outcome e x .line .children ≡ childrenAfter e (x .children)
 unfolding outcome childrenAfter keeps goes inPhase becomes congested withChildren
 tunnels-after (start g t room) x = started-children x (factsOf g) t (configOf t)
-tunnels-after (country n networks t room) x = answered-children x (factsIn (x .phase)) (Selection.answered (eqb n 1) (networksIn networks)) t (configOf t)
+tunnels-after (country n networks t room) x = answered-children x (factsIn (x .phase)) (Selection.countryReply (eqb n 1) (networksIn networks)) t (configOf t)
 tunnels-after (address list) x = addressed-children x (factsIn (x .phase)) list
 tunnels-after begin x = refl
 tunnels-after init x = refl

@@ -12,8 +12,9 @@ use Rattle.octets.specs.Refusal.{_when_, refusal}
 use Rattle.octets.proofs.Counts.{count-same}
 use Rattle.octets.proofs.Rows.{getD-past, getD-row, row-same}
 use Rattle.octets.proofs.Search.{lower}
+use Rattle.octets.specs.Row.{isSome}
 use Rattle.record.specs.Line.{Line}
-use Rattle.table.specs.Slots.{hasLine, isOpen, isTaken, openPairs, slotsOf}
+use Rattle.table.specs.Slots.{isOpen, isTaken, openPairs, slotsOf}
 use Rattle.table.specs.Table.{isTable}
 use Rattle.table.proofs.Lookups.{open-line}
 use Rattle.table.proofs.Views.{room}
@@ -50,17 +51,17 @@ module _ (a : ℕ) (l m : List ℕ) (alike : Alike a l m) where
   -- whether any tenant's line is open
   module _ (tenant line : ℕ) where
     abbrev has : List ℕ → Bool
-    has t = hasLine (getD (viewOf (isTable t) tenant (slotsOf t) .lines) line none)
+    has t = isSome (getD (viewOf (isTable t) tenant (slotsOf t) .lines) line none)
 
     there : (t : List ℕ) → line < 4 → has t ≡ isOpen (pairOf tenant line) (slotsOf t)
     unfolding viewOf ownLine pairOf
     there t h =
-        ap hasLine (getD-row (ownLine tenant (slotsOf t)) none 0 4 line h ∙ ap (ownLine tenant (slotsOf t)) (zero-add line))
+        ap isSome (getD-row (ownLine tenant (slotsOf t)) none 0 4 line h ∙ ap (ownLine tenant (slotsOf t)) (zero-add line))
         ∙ sym (open-line (pairOf tenant line) (omega arith) (slotsOf t))
 
     past : (t : List ℕ) → 4 ≤ line → has t ≡ false
-    unfolding viewOf hasLine
-    past t h = ap hasLine (getD-past (ownLine tenant (slotsOf t)) none 0 4 line h)
+    unfolding viewOf isSome
+    past t h = ap isSome (getD-past (ownLine tenant (slotsOf t)) none 0 4 line h)
 
     same-there : has l ≡ has m
     unfolding pairOf

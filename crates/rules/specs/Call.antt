@@ -10,7 +10,7 @@ use Rattle.place.specs.declared.Place.{Place}
 use Rattle.place.specs.declared.Place.the-variants.{Unknown, Home, Abroad}
 
 -- the numbers of a start: the place and the visited MCC, whether registered and to which PLMN, the local IP version
-pub record Given : Type 0 where
+pub record StartNumbers : Type 0 where
   pub place : ℕ
   pub mcc : ℕ
   pub registered : ℕ
@@ -21,7 +21,7 @@ pub record Given : Type 0 where
 -- what happens on an open line, in the order of 'Life of a line'
 pub data Event : Type 0 where
   -- the configuration text, and the octets of the name buffer
-  start : Given → List ℕ → ℕ → Event
+  start : StartNumbers → List ℕ → ℕ → Event
   -- whether there is a reply, the networks, the text, and the octets of the name buffer
   country : ℕ → List ℕ → List ℕ → ℕ → Event
   -- the addresses
@@ -86,8 +86,8 @@ unfoldable pub pairOf : ℕ → ℕ → ℕ
 pairOf tenant line = suc (4 * tenant + line)
 
 -- MCC and MNC 0 to 999, local IP version 4 or 6, place one of three, a flag 0 or 1; a number that a call does not have is 0
-unfoldable pub givenFits : Given → Bool
-givenFits g =
+unfoldable pub startNumbersFit : StartNumbers → Bool
+startNumbersFit g =
     leb (g .place) 2 && leb (g .mcc) 999 && (eqb (g .place) 2 || eqb (g .mcc) 0)
     && leb (g .registered) 1 && leb (g .registeredMcc) 999 && leb (g .registeredMnc) 999
     && (eqb (g .registered) 1 || eqb (g .registeredMcc) 0 && eqb (g .registeredMnc) 0)
@@ -100,7 +100,7 @@ placeOf place mcc = cond (eqb place 1) Home (cond (eqb place 2) (Abroad mcc) Unk
 unfoldable pub registeredOf : ℕ → ℕ → ℕ → MaybePlmn
 registeredOf registered mcc mnc = cond (eqb registered 1) (Is (record { mcc = mcc; mnc = mnc })) None
 
-unfoldable pub factsOf : Given → Facts
+unfoldable pub factsOf : StartNumbers → Facts
 factsOf g = record {
   place = placeOf (g .place) (g .mcc);
   registered = registeredOf (g .registered) (g .registeredMcc) (g .registeredMnc);

@@ -9,7 +9,7 @@ use Rattle.octets.specs.Digits.{be}
 use Rattle.octets.specs.Part.{padded, zeros}
 use Rattle.text.specs.Text.{digitText, text}
 use Rattle.rules.specs.Answer.{Action, Answer, listed, numbersOf}
-use Rattle.rules.specs.Call.{Given, Event, start, begin, init, eap, reply, final, congestion, Call, opening, timed}
+use Rattle.rules.specs.Call.{StartNumbers, Event, start, begin, init, eap, reply, final, congestion, Call, opening, timed}
 
 -- a record of a text as document 01 shows it: tabs as bars, ended by one newline
 unfoldable pub tabbed : ℕ → ℕ
@@ -47,8 +47,8 @@ roaming =
     ++ shown "bar|901|004"
 
 -- the numbers of a start in their order: place, visited MCC, whether registered, MCC and MNC, local IP version
-unfoldable pub given : ℕ → ℕ → ℕ → ℕ → ℕ → ℕ → Given
-given place mcc registered rmcc rmnc version = record {
+unfoldable pub startNumbers : ℕ → ℕ → ℕ → ℕ → ℕ → ℕ → StartNumbers
+startNumbers place mcc registered rmcc rmnc version = record {
   place = place;
   mcc = mcc;
   registered = registered;
@@ -58,21 +58,21 @@ given place mcc registered rmcc rmnc version = record {
 }
 
 -- at home with each local IP version, abroad in a country, and abroad in 901 with a registered PLMN
-unfoldable pub atHome : Given
-unfolding given
-atHome = given 1 0 0 0 0 4
+unfoldable pub atHome : StartNumbers
+unfolding startNumbers
+atHome = startNumbers 1 0 0 0 0 4
 
-unfoldable pub atHome6 : Given
-unfolding given
-atHome6 = given 1 0 0 0 0 6
+unfoldable pub atHome6 : StartNumbers
+unfolding startNumbers
+atHome6 = startNumbers 1 0 0 0 0 6
 
-unfoldable pub abroad : ℕ → Given
-unfolding given
-abroad mcc = given 2 mcc 0 0 0 4
+unfoldable pub abroad : ℕ → StartNumbers
+unfolding startNumbers
+abroad mcc = startNumbers 2 mcc 0 0 0 4
 
-unfoldable pub registeredTo : ℕ → ℕ → Given
-unfolding given
-registeredTo mcc mnc = given 2 901 1 mcc mnc 4
+unfoldable pub registeredTo : ℕ → ℕ → StartNumbers
+unfolding startNumbers
+registeredTo mcc mnc = startNumbers 2 901 1 mcc mnc 4
 
 -- an entry of a list of networks
 unfoldable pub network : ℕ → ℕ → List ℕ
@@ -100,6 +100,11 @@ unfoldable pub firstReply : List ℕ
 firstReply =
     0x02 ∷ 0x07 ∷ 0x00 ∷ 0x16 ∷ 0xFE ∷ 0x00 ∷ 0x28 ∷ 0xAF ∷ 0x00 ∷ 0x00 ∷ 0x00 ∷ 0x03 ∷ 0x02 ∷ 0x00 ∷ 0x00 ∷ 0x03 ∷ 0x01 ∷ 0x01 ∷ 0xAA
     ∷ 0x00 ∷ 0x01 ∷ 0x7E ∷ []
+
+-- a later reply with identifier 7, no AN-parameters and NAS 7E
+unfoldable pub laterReply : List ℕ
+laterReply =
+    0x02 ∷ 0x07 ∷ 0x00 ∷ 0x13 ∷ 0xFE ∷ 0x00 ∷ 0x28 ∷ 0xAF ∷ 0x00 ∷ 0x00 ∷ 0x00 ∷ 0x03 ∷ 0x02 ∷ 0x00 ∷ 0x00 ∷ 0x00 ∷ 0x00 ∷ 0x01 ∷ 0x7E ∷ []
 
 -- an event on line 0 of tenant 0
 unfoldable pub own : ℕ → Event → Call

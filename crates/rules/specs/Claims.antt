@@ -11,6 +11,7 @@ use Rattle.octets.specs.Part.{padded, zeros}
 use Rattle.octets.specs.Refusal.{Applies}
 use Rattle.octets.specs.Row.{only, row}
 use Rattle.octets.specs.Search.{allOf}
+use Rattle.address.specs.Address.{heldAddresses}
 use Rattle.children.specs.declared.Child.{Child}
 use Rattle.config.specs.Settings.{Settings, configOf}
 use Rattle.lists.specs.Lists.{addressesIn, networksIn}
@@ -18,22 +19,22 @@ use Rattle.place.specs.declared.Facts.{Facts}
 use Rattle.record.specs.Line.{Line}
 use Rattle.response.specs.Laws as Response
 use Rattle.selection.specs.Selection as Selection
-use Rattle.selection.specs.Stops.{Ends, Exactly, addresses, countryStep, startStep}
+use Rattle.selection.specs.Stops.{Ends, Exactly, addresses, countryReached, startReached}
 use Rattle.table.specs.Slots.{isOpen, lineAt, slotsOf}
 use Rattle.table.specs.Table.{isTable, recordOf, slot}
 use Rattle.rules.specs.Answer.{Answer, eventRoom}
-use Rattle.rules.specs.Call.{Given, Event, start, country, address, begin, init, eap, reply, final, error, congestion, give-up, child-made, child-deleted, ike-delete, Call, opening, closing, listing, timed, factsOf, pairOf}
+use Rattle.rules.specs.Call.{StartNumbers, Event, start, country, address, begin, init, eap, reply, final, error, congestion, give-up, child-made, child-deleted, ike-delete, Call, opening, closing, listing, timed, factsOf, pairOf}
 use Rattle.rules.specs.Histories.{answersTo, isOctets, remaining}
-use Rattle.rules.specs.Life.{current, held, isOther, outcome, withChildren}
+use Rattle.rules.specs.Life.{current, isOther, outcome, withChildren}
 use Rattle.rules.specs.Listing.{listFrom}
 use Rattle.rules.specs.Phases.{factsIn, isIn}
 use Rattle.rules.specs.Run.{Result, answerOf, fresh, ownLine, run, stepOf}
-use Rattle.rules.specs.Slots.{runOn}
+use Rattle.rules.specs.OnSlots.{runOn}
 use Rattle.rules.specs.Starred as Starred
 
 -- the number that a call gives
-unfoldable pub given : Call → List ℕ → ℕ
-given c l = run c l .answer .refusal
+unfoldable pub numberGiven : Call → List ℕ → ℕ
+numberGiven c l = run c l .answer .refusal
 
 -- a sound table of octets
 pub record Good (l : List ℕ) : Type 0 where
@@ -91,16 +92,16 @@ pub record Timed (tenant line time : ℕ) (e : Event) (l : List ℕ) (x : Line) 
   pub octets : isOctets (timed tenant line time e) ≡ true
   pub good : Good l
   pub stands : lineIn l tenant line ≡ some x
-  pub accepted : given (timed tenant line time e) l ≡ 0
+  pub accepted : numberGiven (timed tenant line time e) l ≡ 0
 
 pub record Claims : Type 0 where
   -- the number given is the lowest whose condition holds, 0 exactly where none does; never above 13
   pub refusal-lowest : (c : Call) (l : List ℕ) (n : ℕ) → Applies n (stepOf c l .refusals)
-      → Applies (given c l) (stepOf c l .refusals) × (given c l ≤ n)
-  pub refusal-none : (c : Call) (l : List ℕ) → ((n : ℕ) → Applies n (stepOf c l .refusals) → ⊥) → given c l ≡ 0
-  pub refusal-range : (c : Call) (l : List ℕ) → given c l ≤ 13
+      → Applies (numberGiven c l) (stepOf c l .refusals) × (numberGiven c l ≤ n)
+  pub refusal-none : (c : Call) (l : List ℕ) → ((n : ℕ) → Applies n (stepOf c l .refusals) → ⊥) → numberGiven c l ≡ 0
+  pub refusal-range : (c : Call) (l : List ℕ) → numberGiven c l ≤ 13
   -- a refused call leaves the table as it was, every number 0, the part empty and the answer buffer zeros
-  pub refusal-leaves : (c : Call) (l : List ℕ) → (given c l ≡ 0 → ⊥) → Left c l (run c l)
+  pub refusal-leaves : (c : Call) (l : List ℕ) → (numberGiven c l ≡ 0 → ⊥) → Left c l (run c l)
   -- the empty table is sound, and a sound table stays sound, whatever the call
   pub empty-good : Good (zeros 7776)
   pub run-sound : (c : Call) (l : List ℕ) → isOctets c ≡ true → Good l → Good (run c l .table)
@@ -112,16 +113,16 @@ pub record Claims : Type 0 where
       → (run (timed tenant line time e) l .answer ≡ answerOf e (outcome e (current time x)))
       × (lineIn (run (timed tenant line time e) l .table) tenant line ≡ some (outcome e (current time x) .line))
   -- start, the country answer and the address answer stop exactly where the step reached has nothing that is permitted, with its number
-  pub stops-start : (tenant line time : ℕ) (g : Given) (text : List ℕ) (room : ℕ) (l : List ℕ) (x : Line) (s : Settings)
+  pub stops-start : (tenant line time : ℕ) (g : StartNumbers) (text : List ℕ) (room : ℕ) (l : List ℕ) (x : Line) (s : Settings)
       → Timed tenant line time (start g text room) l x → configOf text ≡ some s
-      → Exactly (Ends s (g .version) (held (current time x)) (startStep s (factsOf g .place))) (stopSaid (run (timed tenant line time (start g text room)) l .answer))
+      → Exactly (Ends s (g .version) (heldAddresses (current time x .holds)) (startReached s (factsOf g .place))) (stopSaid (run (timed tenant line time (start g text room)) l .answer))
   pub stops-country : (tenant line time replied : ℕ) (networks text : List ℕ) (room : ℕ) (l : List ℕ) (x : Line) (s : Settings) (f : Facts)
       → Timed tenant line time (country replied networks text room) l x → configOf text ≡ some s → factsIn (x .phase) ≡ some f
-      → Exactly (Ends s (f .version) (held (current time x)) (countryStep s (f .place) (Selection.answered (eqb replied 1) (networksIn networks))))
+      → Exactly (Ends s (f .version) (heldAddresses (current time x .holds)) (countryReached s (f .place) (Selection.countryReply (eqb replied 1) (networksIn networks))))
       (stopSaid (run (timed tenant line time (country replied networks text room)) l .answer))
   pub stops-address : (tenant line time : ℕ) (list : List ℕ) (l : List ℕ) (x : Line) (s : Settings) (f : Facts)
       → Timed tenant line time (address list) l x → factsIn (x .phase) ≡ some f
-      → Exactly (Ends s (f .version) (held (current time x)) (addresses (addressesIn list))) (stopSaid (run (timed tenant line time (address list)) l .answer))
+      → Exactly (Ends s (f .version) (heldAddresses (current time x .holds)) (addresses (addressesIn list))) (stopSaid (run (timed tenant line time (address list)) l .answer))
   -- children stand only on a live line, and only a child made adds one
   pub tunnels-live : (tenant line : ℕ) (l : List ℕ) (x : Line) → Good l → lineIn l tenant line ≡ some x → isIn "live" (x .phase) ≡ false → x .children ≡ []
   pub tunnels-after : (e : Event) (x : Line) → outcome e x .line .children ≡ childrenAfter e (x .children)
@@ -137,14 +138,14 @@ pub record Claims : Type 0 where
   -- writing and reading NAS responses undo each other
   pub eap-round : Response.Laws
   -- after an accepted close the pair's record is zeros and every other record has its octets
-  pub closed-zero : (tenant line : ℕ) (l : List ℕ) → Good l → given (closing tenant line) l ≡ 0
+  pub closed-zero : (tenant line : ℕ) (l : List ℕ) → Good l → numberGiven (closing tenant line) l ≡ 0
       → (slot (run (closing tenant line) l .table) (recordOf l (pairOf tenant line)) ≡ zeros 243)
       × ((j : ℕ) → (j ≡ recordOf l (pairOf tenant line) → ⊥) → slot (run (closing tenant line) l .table) j ≡ slot l j)
   -- a line just opened is idle with no child, no hold and time 0, whatever the table was
-  pub taken-over-clean : (tenant line : ℕ) (l : List ℕ) → Good l → given (opening tenant line) l ≡ 0
+  pub taken-over-clean : (tenant line : ℕ) (l : List ℕ) → Good l → numberGiven (opening tenant line) l ≡ 0
       → lineIn (run (opening tenant line) l .table) tenant line ≡ some fresh
   -- and its tenant's listing says so: the lines as they were, with this one among them
-  pub taken-over-listed : (tenant line room : ℕ) (l : List ℕ) → Good l → given (opening tenant line) l ≡ 0 → 1024 ≤ room
+  pub taken-over-listed : (tenant line room : ℕ) (l : List ℕ) → Good l → numberGiven (opening tenant line) l ≡ 0 → 1024 ≤ room
       → run (listing tenant room) (run (opening tenant line) l .table) .answer .buffer
       ≡ padded room (listFrom 0 (set (row (ownLine tenant (slotsOf l)) 0 4) line (some fresh)))
   -- if the same calls remain after striking out the other tenants' calls that are neither open nor close, a tenant gets the same answers
@@ -154,4 +155,4 @@ pub record Claims : Type 0 where
   pub isolation-from : (a : ℕ) (g h : List Call) → allOf isOctets g ≡ true → allOf isOctets h ≡ true → remaining a g ≡ remaining a h
       → (l m : List ℕ) → Alike a l m → answersTo a g l ≡ answersTo a h m
   -- document 01's starred examples
-  pub starred : map Starred.found Starred.starred ≡ map Starred.said Starred.starred
+  pub starred : map Starred.got Starred.starred ≡ map Starred.said Starred.starred

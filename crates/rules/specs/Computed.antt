@@ -38,12 +38,12 @@ use Rattle.rules.specs.Refusals as RulesRefusals
 use Rattle.rules.specs.Life as RulesLife
 use Rattle.rules.specs.Listing as RulesListing
 use Rattle.rules.specs.Run as RulesRun
-use Rattle.rules.specs.Slots as RulesSlots
+use Rattle.rules.specs.OnSlots as RulesOnSlots
 use Rattle.octets.specs.Row.{joined}
 use Rattle.table.specs.Slots.{Slot, Free}
 use Rattle.rules.specs.Answer.{Answer}
 use Rattle.rules.specs.Call.{Call}
-use Rattle.rules.specs.Slots.{answersOn, runOn}
+use Rattle.rules.specs.OnSlots.{answersOn, runOn}
 
 unfoldable pub empty : List Slot
 empty = replicate 32 Free
@@ -56,10 +56,10 @@ slotsOn (c ∷ h) ss = slotsOn h (runOn c ss .slots)
 unfoldable pub slotsAfter : List Call → List Slot
 unfolding empty slotsOn
     Digits.digits Digits.numberFrom Digits.number Digits.be Digits.field
-    Part.part Part.zeros Part.padded Part.same Part.zerosAt Part.holds
+    Part.part Part.zeros Part.padded Part.same Part.zerosAt Part.octetIs
     Search.all Search.least Search.allOf Search.anyOf Search.distinct
     Refusal.refusal
-    Row.row Row.joined Row.place Row.first Row.keep Row.only
+    Row.row Row.joined Row.place Row.first Row.keep Row.only Row.isSome
     Text.text Text.character Text.digit Text.digitText Text.isDigit Text.readDigits Text.shortEnough Text.decimalWidth Text.decimal
     Timer.unitSeconds Timer.timerOf
     Plmn.samePlmn Plmn.among Plmn.plmnOption
@@ -74,8 +74,8 @@ unfolding empty slotsOn
     Field.plmnFrom Field.plmnOf Field.plain Field.priorityOf Field.isNameCharacter Field.isName
     Entry.homeEntry Entry.barEntry Entry.plmnEntry Entry.nameEntry Entry.v4From Entry.v4Entry Entry.v6From Entry.v6Entry Entry.nodeEntry
     Entry.three Entry.four Entry.entryOf Entry.lineEntry
-    Lines.lastEntry Lines.entries Lines.entriesFrom Lines.newline
-    Settings.plmnIn Settings.accepted Settings.asHome Settings.asNode Settings.asListed Settings.taken Settings.run
+    Lines.lastEntry Lines.entries Lines.entriesFrom Lines.lineEnd
+    Settings.plmnIn Settings.accepted Settings.asHome Settings.asNode Settings.asListed Settings.taken Settings.section
     Settings.left Settings.rest Settings.ends Settings.isEnd Settings.nodeOr Settings.firstNode Settings.afterNode Settings.settle
     Settings.withHome Settings.fromHome Settings.namePlace Settings.configOf
     Addresses.addressOctets Addresses.versionFrom Addresses.addressFrom Addresses.isAddress
@@ -87,27 +87,27 @@ unfolding empty slotsOn
     Preference.unranked
     Selection.homeAbroad Selection.counting Selection.registered Selection.byNode Selection.atHome Selection.direct Selection.abroad
     Selection.startAt Selection.start Selection.askOr Selection.ifListed Selection.oneOrMore Selection.noneListed Selection.country
-    Selection.answered
+    Selection.countryReply
     Query.built Query.asked
     Holds.endAfter Holds.endsAfter
     Children.isSpi Children.hasSpi
     Sound.chosen
-    TableSlots.pairIn TableSlots.isOf TableSlots.isOpen TableSlots.slotLine TableSlots.lineAt TableSlots.hasLine TableSlots.replaced
-    RulesCall.tenantOf RulesCall.pairOf RulesCall.givenFits RulesCall.placeOf RulesCall.registeredOf RulesCall.factsOf
+    TableSlots.pairIn TableSlots.isOf TableSlots.isOpen TableSlots.slotLine TableSlots.lineAt TableSlots.replaced
+    RulesCall.tenantOf RulesCall.pairOf RulesCall.startNumbersFit RulesCall.placeOf RulesCall.registeredOf RulesCall.factsOf
     RulesAnswer.high RulesAnswer.low RulesAnswer.twelve RulesAnswer.numbersOf RulesAnswer.eventRoom RulesAnswer.refused
     RulesPhases.word RulesPhases.isIn RulesPhases.underway RulesPhases.factsIn RulesPhases.turnIn RulesPhases.isFirst RulesPhases.owed
     RulesPhases.lastReply
-    RulesRefusals.isSome RulesRefusals.isLong RulesRefusals.isMalformed RulesRefusals.isHomeAbroad RulesRefusals.waitsHomeAbroad
+    RulesRefusals.isLong RulesRefusals.isMalformed RulesRefusals.isHomeAbroad RulesRefusals.waitsHomeAbroad
     RulesRefusals.badNetworks RulesRefusals.badReply RulesRefusals.badChild RulesRefusals.isTakenApart RulesRefusals.isNumber
     RulesRefusals.isDue RulesRefusals.unless RulesRefusals.refusalsOf
-    RulesLife.current RulesLife.inPhase RulesLife.goes RulesLife.onward RulesLife.keeps RulesLife.found RulesLife.held RulesLife.asking
-    RulesLife.decided RulesLife.started RulesLife.answered RulesLife.addressed RulesLife.packetTaken RulesLife.replied RulesLife.finished
-    RulesLife.ended RulesLife.holdBy RulesLife.heldBy RulesLife.congested RulesLife.withChildren RulesLife.isOther RulesLife.becomes
+    RulesLife.current RulesLife.inPhase RulesLife.goes RulesLife.onward RulesLife.keeps RulesLife.gatewayFound RulesLife.nameAsked
+    RulesLife.decided RulesLife.started RulesLife.countryAnswered RulesLife.addressAnswered RulesLife.packetTaken RulesLife.replied RulesLife.finished
+    RulesLife.ended RulesLife.timerHold RulesLife.chosenHold RulesLife.congested RulesLife.withChildren RulesLife.isOther RulesLife.becomes
     RulesLife.outcome
     RulesListing.tab RulesListing.newline RulesListing.addressText RulesListing.childText RulesListing.lineText RulesListing.listFrom
     RulesRun.ownLine RulesRun.viewOf RulesRun.fresh RulesRun.lineOr RulesRun.isNoPair RulesRun.bare RulesRun.isShort RulesRun.answerOf
     RulesRun.timedStep RulesRun.step
-    RulesSlots.appliedOn RulesSlots.settledOn RulesSlots.runOn RulesSlots.answersOn
+    RulesOnSlots.appliedOn RulesOnSlots.settledOn RulesOnSlots.runOn RulesOnSlots.answersOn
 slotsAfter h = slotsOn h empty
 
 -- the answers to calls that follow others
@@ -154,9 +154,9 @@ pub record Example : Type 0 where
   pub calls : List Call
   pub says : List Answer
 
-unfoldable pub found : Example → List ℕ
+unfoldable pub got : Example → List ℕ
 unfolding answersAfter answerNumbers evaluated
-found e = evaluated (joined answerNumbers (answersAfter (e .before) (e .calls)))
+got e = evaluated (joined answerNumbers (answersAfter (e .before) (e .calls)))
 
 unfoldable pub said : Example → List ℕ
 unfolding answerNumbers

@@ -6,11 +6,10 @@ use mathlib.Core.Path.{_≡_, refl}
 use lib.ListN.{replicate}
 use Rattle.octets.specs.Row.{joined, row}
 use Rattle.text.specs.Text.{digitText, text}
-use Rattle.eap.specs.Examples.{laterReply}
 use Rattle.rules.specs.Answer.{Answer, nothing, ask-built, ask-text, ask-nas, hand-up}
 use Rattle.rules.specs.Call.{start, country, eap, reply, child-made, child-deleted, Call}
-use Rattle.rules.specs.Cases.{acts, atHome, declined, declines, given, nas, now, plain, shown, toAnswered, toAuth, toCountry, toFirst, toIdle, toLive, writes}
-use Rattle.rules.specs.Computed.{Example, found, said}
+use Rattle.rules.specs.Cases.{acts, atHome, declined, declines, startNumbers, nas, now, plain, shown, toAnswered, toAuth, toCountry, toFirst, toIdle, toLive, writes, laterReply}
+use Rattle.rules.specs.Computed.{Example, got, said}
 
 -- a start by the records of its text
 unfoldable pub startBy : List String → Call
@@ -73,7 +72,7 @@ unfolding now
 makeChild spi = now (child-made spi 1)
 
 unfoldable pub forms : List Example
-unfolding acts atHome declined declines given illFormed laterReply makeChild nas now packet startBy startFull startRefused toAnswered toAuth
+unfolding acts atHome declined declines startNumbers illFormed laterReply makeChild nas now packet startBy startFull startRefused toAnswered toAuth
     toCountry toFirst toIdle toLive writes
 forms =
     -- 9: a configuration text that isn't well formed
@@ -81,7 +80,7 @@ forms =
     -- also where the place is unknown or the country query got no reply
     ∷ record {
       before = toCountry;
-      calls = now (start (given 0 0 0 0 0 4) [] 64) ∷ now (country 0 [] [] 64) ∷ [];
+      calls = now (start (startNumbers 0 0 0 0 0 4) [] 64) ∷ now (country 0 [] [] 64) ∷ [];
       says = declines 64 9 ∷ declines 64 9 ∷ [];
     }
     -- each record is ended by one newline
@@ -141,6 +140,6 @@ forms =
     }
     ∷ []
 
-pub forms-computed : map found forms ≡ map said forms
-unfolding forms found said
+pub forms-computed : map got forms ≡ map said forms
+unfolding forms got said
 forms-computed = refl

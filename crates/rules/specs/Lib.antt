@@ -7,7 +7,7 @@ pub mod Life
 pub mod Listing
 pub mod Run
 pub mod Histories
-pub mod Slots
+pub mod OnSlots
 pub mod Computed
 pub mod Cases
 pub mod LifeExamples

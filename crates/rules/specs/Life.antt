@@ -6,7 +6,7 @@ use mathlib.Core.Option.{Option, none, some}
 use lib.Dec.{eqb}
 use lib.ListN.{length}
 use Rattle.octets.specs.Row.{only}
-use Rattle.address.specs.Address.{addressIn}
+use Rattle.address.specs.Address.{heldAddresses}
 use Rattle.address.specs.declared.Address.{Address}
 use Rattle.address.specs.declared.End.the-variants.{At, Never}
 use Rattle.address.specs.declared.Hold.{Hold}
@@ -72,44 +72,40 @@ unfoldable pub keeps : Line → (Address → Phase) → Action → Outcome
 keeps x f action = goes x (onward f (chosen (x .phase))) action
 
 -- S5: the address is chosen, or selection stops; either says how many addresses were passed over
-unfoldable pub found : Line → Found → Outcome
-found x (Found.Chosen a k) = goes x (Chosen a) (chose a k)
-found x (Found.Nothing k) = goes x Idle (stopped 4 k)
-
--- the addresses on hold
-unfoldable pub held : Line → List Address
-held x = map addressIn (x .holds)
+unfoldable pub gatewayFound : Line → Found → Outcome
+gatewayFound x (Found.Chosen a k) = goes x (Chosen a) (chose a k)
+gatewayFound x (Found.Nothing k) = goes x Idle (stopped 4 k)
 
 -- a name is asked: its octets are the part, and those that are built are written
-unfoldable pub asking : Line → Phase → Action → List ℕ → Choice → Outcome
-asking x p action text c = record { line = inPhase x p; action = action; part = asked text c; written = built c }
+unfoldable pub nameAsked : Line → Phase → Action → List ℕ → Choice → Outcome
+nameAsked x p action text c = record { line = inPhase x p; action = action; part = asked text c; written = built c }
 
 -- S1 to S4: selection stops, a name is asked, or a `node` address is treated as an answer list of one
 unfoldable pub decided : Line → Facts → List ℕ → Choice → Outcome
 decided x f text (Choice.Stop n) = goes x Idle (stopped n 0)
 decided x f text (Choice.Country mcc) =
     let c = Choice.Country mcc in
-    asking x (Country f) (ask-country (length (built c))) text c
-decided x f text (Choice.Text at n) = asking x (Name f) (ask-text at n) text (Choice.Text at n)
+    nameAsked x (Country f) (ask-country (length (built c))) text c
+decided x f text (Choice.Text at n) = nameAsked x (Name f) (ask-text at n) text (Choice.Text at n)
 decided x f text (Choice.Network p) =
     let c = Choice.Network p in
-    asking x (Name f) (ask-built (length (built c))) text c
-decided x f text (Choice.Address a) = found x (choose (f .version) (held x) (a ∷ []))
+    nameAsked x (Name f) (ask-built (length (built c))) text c
+decided x f text (Choice.Address a) = gatewayFound x (choose (f .version) (heldAddresses (x .holds)) (a ∷ []))
 
 -- start, and the country answer with the place facts of the line, by the lent text
 unfoldable pub started : Line → Facts → List ℕ → Option Settings → Outcome
 started x f text none = goes x Idle nothing
 started x f text (some s) = decided x f text (Selection.start s f)
 
-unfoldable pub answered : Line → Option Facts → Option (List Plmn) → List ℕ → Option Settings → Outcome
-answered x none ps text s = goes x Idle nothing
-answered x (some f) ps text none = goes x Idle nothing
-answered x (some f) ps text (some s) = decided x f text (Selection.country s f ps)
+unfoldable pub countryAnswered : Line → Option Facts → Option (List Plmn) → List ℕ → Option Settings → Outcome
+countryAnswered x none ps text s = goes x Idle nothing
+countryAnswered x (some f) ps text none = goes x Idle nothing
+countryAnswered x (some f) ps text (some s) = decided x f text (Selection.country s f ps)
 
 -- the address answer, for the local IP version of the line's place facts
-unfoldable pub addressed : Line → Option Facts → List Address → Outcome
-addressed x none list = goes x Idle nothing
-addressed x (some f) list = found x (choose (f .version) (held x) list)
+unfoldable pub addressAnswered : Line → Option Facts → List Address → Outcome
+addressAnswered x none list = goes x Idle nothing
+addressAnswered x (some f) list = gatewayFound x (choose (f .version) (heldAddresses (x .holds)) list)
 
 -- EAP Start: identifier owed, ask for NAS; EAP NAS: identifier owed, hand NAS up; EAP Success: send AUTH
 unfoldable pub packetTaken : Line → List ℕ → Packet → Outcome
@@ -147,21 +143,21 @@ unfoldable pub ended : Phase → ℕ
 ended p = cond (isIn "eap" p) 1 0
 
 -- hold by timer: until time plus count times unit, without end, or none
-unfoldable pub holdBy : ℕ → Timer → Address → List Hold
-holdBy time Timer.None a = []
-holdBy time (Timer.Seconds n) a = record { address = a; end = At (time + n) } ∷ []
-holdBy time Timer.Deactivated a = record { address = a; end = Never } ∷ []
+unfoldable pub timerHold : ℕ → Timer → Address → List Hold
+timerHold time Timer.None a = []
+timerHold time (Timer.Seconds n) a = record { address = a; end = At (time + n) } ∷ []
+timerHold time Timer.Deactivated a = record { address = a; end = Never } ∷ []
 
-unfoldable pub heldBy : ℕ → Timer → Option Address → List Hold
-heldBy time t none = []
-heldBy time t (some a) = holdBy time t a
+unfoldable pub chosenHold : ℕ → Timer → Option Address → List Hold
+chosenHold time t none = []
+chosenHold time t (some a) = timerHold time t a
 
 -- congestion: idle, the chosen address held
 unfoldable pub congested : Line → Timer → Line
 congested x t = record {
   time = x .time;
   phase = Idle;
-  holds = x .holds ++ heldBy (x .time) t (chosen (x .phase));
+  holds = x .holds ++ chosenHold (x .time) t (chosen (x .phase));
   children = x .children;
 }
 
@@ -180,8 +176,8 @@ becomes x action = record { line = x; action = action; part = []; written = [] }
 unfoldable pub outcome : Event → Line → Outcome
 outcome (start g text room) x = started x (factsOf g) text (configOf text)
 outcome (country n networks text room) x =
-    answered x (factsIn (x .phase)) (Selection.answered (eqb n 1) (networksIn networks)) text (configOf text)
-outcome (address addresses) x = addressed x (factsIn (x .phase)) (addressesIn addresses)
+    countryAnswered x (factsIn (x .phase)) (Selection.countryReply (eqb n 1) (networksIn networks)) text (configOf text)
+outcome (address addresses) x = addressAnswered x (factsIn (x .phase)) (addressesIn addresses)
 outcome begin x = keeps x Init send-init
 outcome init x = keeps x Auth send-auth-request
 outcome (eap packet) x = packetTaken x packet (readPacket packet)

@@ -4,11 +4,10 @@ use mathlib.Core.List.{List, [], _∷_, _++_, map}
 use mathlib.Core.Path.{_≡_, refl}
 use Rattle.address.specs.Address.{versionOf}
 use Rattle.address.specs.declared.Address.the-variants.{V4, V6}
-use Rattle.eap.specs.Examples.{laterReply}
 use Rattle.rules.specs.Answer.{Action, nothing, stopped, ask-country, ask-text, ask-built, chose, send-init, send-auth-request, ask-nas, hand-up, send-response, send-auth, live, released, error-up, listed, high, low, numbersOf, twelve}
 use Rattle.rules.specs.Call.{Event, start, begin, init, eap, reply, final, error, congestion, give-up, child-made, child-deleted, ike-delete, Call, opening, closing, listing}
-use Rattle.rules.specs.Cases.{acts, atHome, atHome6, declined, done, firstReply, lists, nas, nasPacket, node, node6, now, own, parameters, shown, startPacket, success, toAnswered, toAuth, toChosen, toCountry, toFirst, toIdle, toInit, toLive, toName, toOwed, toSure, writes}
-use Rattle.rules.specs.Computed.{Example, found, said}
+use Rattle.rules.specs.Cases.{acts, atHome, atHome6, declined, done, firstReply, lists, nas, nasPacket, node, node6, now, own, parameters, shown, startPacket, success, toAnswered, toAuth, toChosen, toCountry, toFirst, toIdle, toInit, toLive, toName, toOwed, toSure, writes, laterReply}
+use Rattle.rules.specs.Computed.{Example, got, said}
 
 -- a line stands as the listing shows it
 unfoldable pub standing : List Call → String → Example
@@ -119,8 +118,8 @@ lives =
     }
     ∷ []
 
-pub lives-computed : map found lives ≡ map said lives
-unfolding lives found said
+pub lives-computed : map got lives ≡ map said lives
+unfolding lives got said
 lives-computed = refl
 
 -- the twelve numbers of each action, in the order of the numbers that name actions

@@ -12,7 +12,7 @@ use Rattle.text.specs.Text.{text}
 use Rattle.rules.specs.Call.{Event, start, country, address, begin, init, eap, reply, final, error, congestion, give-up, child-made, child-deleted, ike-delete, Call}
 use Rattle.rules.specs.Cases.{atHome, nas, nasPacket, node, now, parameters, roaming, startPacket, success, toAnswered, toAuth, toChosen, toCountry, toFirst, toIdle, toInit, toLive, toName, toOwed, toSure}
 use Rattle.rules.specs.Computed.{evaluated, slotsAfter}
-use Rattle.rules.specs.Slots.{runOn}
+use Rattle.rules.specs.OnSlots.{runOn}
 
 -- start, country, address, begin, init; EAP Start, NAS, Success of the last reply and of another; reply with AN-parameters and without;
 -- final; error; congestion, authenticated and not; give up; child made; child deleted, present, absent and below 256; IKE delete

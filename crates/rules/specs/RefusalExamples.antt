@@ -9,23 +9,23 @@ use Rattle.address.specs.declared.Address.the-variants.{V4}
 use Rattle.addresses.specs.Addresses.{addressOctets}
 use Rattle.text.specs.Text.{text}
 use Rattle.rules.specs.Answer.{nothing, stopped, ask-country, ask-built, chose, send-init, send-response}
-use Rattle.rules.specs.Call.{Given, start, country, address, begin, init, reply, final, error, congestion, give-up, child-made, child-deleted, Call, opening, closing, listing, timed}
-use Rattle.rules.specs.Cases.{abroad, acts, atHome, declined, declines, denied, done, firstReply, given, lists, nas, network, node, now, own, parameters, plain, roaming, shown, toChosen, toCountry, toFirst, toIdle, toLive, toName, toSure, writes}
-use Rattle.rules.specs.Computed.{Example, found, said}
+use Rattle.rules.specs.Call.{StartNumbers, start, country, address, begin, init, reply, final, error, congestion, give-up, child-made, child-deleted, Call, opening, closing, listing, timed}
+use Rattle.rules.specs.Cases.{abroad, acts, atHome, declined, declines, denied, done, firstReply, startNumbers, lists, nas, network, node, now, own, parameters, plain, roaming, shown, toChosen, toCountry, toFirst, toIdle, toLive, toName, toSure, writes}
+use Rattle.rules.specs.Computed.{Example, got, said}
 
 -- each of the 64 pairs is opened by its number
 unfoldable pub openPair : ℕ → Call
 openPair k = opening (k / 4) (k % 4)
 
 -- a start by its numbers
-unfoldable pub startGiven : Given → Call
+unfoldable pub startGiven : StartNumbers → Call
 unfolding node now
 startGiven g = now (start g node 64)
 
 -- a start in which everything is wrong that can be
 unfoldable pub worst : ℕ → ℕ → ℕ → ℕ → Call
-unfolding given
-worst tenant line time room = timed tenant line time (start (given 3 0 0 0 0 4) [] room)
+unfolding startNumbers
+worst tenant line time room = timed tenant line time (start (startNumbers 3 0 0 0 0 4) [] room)
 
 unfoldable pub lowest : List Example
 unfolding acts atHome declined declines denied done firstReply lists nas node now openPair own parameters plain abroad shown toChosen
@@ -94,12 +94,12 @@ lowest =
     }
     ∷ []
 
-pub lowest-computed : map found lowest ≡ map said lowest
-unfolding lowest found said
+pub lowest-computed : map got lowest ≡ map said lowest
+unfolding lowest got said
 lowest-computed = refl
 
 unfoldable pub ranges : List Example
-unfolding acts atHome declined declines given nas network now own parameters roaming shown startGiven toChosen toCountry toFirst toIdle
+unfolding acts atHome declined declines startNumbers nas network now own parameters roaming shown startGiven toChosen toCountry toFirst toIdle
     toLive toName toSure writes
 ranges =
     -- 8: place one of three, MCC and MNC 0 to 999, a flag 0 or 1, local IP version 4 or 6; a number that a call does not have is 0
@@ -107,10 +107,10 @@ ranges =
       before = toIdle;
       calls =
           map startGiven
-          (given 3 0 0 0 0 4 ∷ given 2 1000 0 0 0 4 ∷ given 1 901 0 0 0 4 ∷ given 0 901 0 0 0 4 ∷ given 1 0 2 0 0 4 ∷ given 1 0 1 1000 0 4
-          ∷ given 1 0 1 0 1000 4 ∷ given 1 0 0 1 0 4 ∷ given 1 0 0 0 1 4 ∷ given 1 0 0 0 0 5
+          (startNumbers 3 0 0 0 0 4 ∷ startNumbers 2 1000 0 0 0 4 ∷ startNumbers 1 901 0 0 0 4 ∷ startNumbers 0 901 0 0 0 4 ∷ startNumbers 1 0 2 0 0 4 ∷ startNumbers 1 0 1 1000 0 4
+          ∷ startNumbers 1 0 1 0 1000 4 ∷ startNumbers 1 0 0 1 0 4 ∷ startNumbers 1 0 0 0 1 4 ∷ startNumbers 1 0 0 0 0 5
           -- abroad with the home MCC of the lent text
-          ∷ given 2 262 0 0 0 4 ∷ given 2 999 1 999 999 4 ∷ []);
+          ∷ startNumbers 2 262 0 0 0 4 ∷ startNumbers 2 999 1 999 999 4 ∷ []);
       says =
           replicate 11 (declines 64 8)
           ++ writes 64 (ask-country 52) (text "n3iwf.5gc.mcc999.visited-country.pub.3gppnetwork.org")
@@ -120,7 +120,7 @@ ranges =
     -- that is 8 in every phase, and so is empty or over-long NAS
     ∷ record {
       before = toLive;
-      calls = startGiven (given 2 262 0 0 0 4) ∷ now (reply parameters [] 3090) ∷ now (reply parameters (zeros 2049) 3090) ∷ [];
+      calls = startGiven (startNumbers 2 262 0 0 0 4) ∷ now (reply parameters [] 3090) ∷ now (reply parameters (zeros 2049) 3090) ∷ [];
       says = declines 64 8 ∷ declines 3090 8 ∷ declines 3090 8 ∷ [];
     }
     -- a configuration text over 1,024 octets is 8
@@ -189,6 +189,6 @@ ranges =
     }
     ∷ []
 
-pub ranges-computed : map found ranges ≡ map said ranges
-unfolding ranges found said
+pub ranges-computed : map got ranges ≡ map said ranges
+unfolding ranges got said
 ranges-computed = refl

@@ -6,6 +6,7 @@ use mathlib.Core.Option.{Option, none, some}
 use lib.Dec.{leb, ltb, eqb}
 use lib.ListN.{length}
 use Rattle.octets.specs.Refusal.{Refusal, _when_}
+use Rattle.octets.specs.Row.{isSome}
 use Rattle.children.specs.Children.{hasSpi}
 use Rattle.config.specs.Settings.{Settings, configOf}
 use Rattle.eap.specs.Packet.{readPacket}
@@ -17,14 +18,8 @@ use Rattle.phase.specs.declared.Phase.{Phase}
 use Rattle.place.specs.declared.Facts.{Facts}
 use Rattle.record.specs.Line.{Line}
 use Rattle.selection.specs.Selection.{homeAbroad}
-use Rattle.rules.specs.Call.{Event, start, country, address, begin, init, eap, reply, final, error, congestion, give-up, child-made, child-deleted, ike-delete, factsOf, givenFits}
+use Rattle.rules.specs.Call.{Event, start, country, address, begin, init, eap, reply, final, error, congestion, give-up, child-made, child-deleted, ike-delete, factsOf, startNumbersFit}
 use Rattle.rules.specs.Phases.{factsIn, isFirst, isIn, lastReply, owed, turnIn, underway}
-
--- there is a configuration, an identifier
-module _ {A : Type 0} where
-  unfoldable pub isSome : Option A → Bool
-  isSome none = false
-  isSome (some x) = true
 
 -- a configuration text over 1,024 octets is 8, one that isn't well formed 9
 unfoldable pub isLong : List ℕ → Bool
@@ -85,7 +80,7 @@ unless allowed = 10 when not allowed
 -- each number that an event can give, with its condition; the line is without its ended holds, and out says that the time is out of its range
 unfoldable pub refusalsOf : Event → Bool → Line → List Refusal
 refusalsOf (start g text room) out x =
-    (8 when (out || not (givenFits g) || isLong text || isHomeAbroad (configOf text) (some (factsOf g))))
+    (8 when (out || not (startNumbersFit g) || isLong text || isHomeAbroad (configOf text) (some (factsOf g))))
     ∷ (9 when isMalformed text) ∷ unless (isIn "idle" (x .phase)) ∷ (13 when leb 8 (length (x .holds))) ∷ []
 refusalsOf (country replied networks text room) out x =
     (8 when (out || badNetworks replied networks || isLong text || waitsHomeAbroad text (x .phase)))

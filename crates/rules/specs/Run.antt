@@ -7,10 +7,10 @@ use lib.Dec.{ltb}
 use lib.ListN.{length, getD}
 use Rattle.octets.specs.Part.{padded}
 use Rattle.octets.specs.Refusal.{Refusal, _when_, refusal}
-use Rattle.octets.specs.Row.{row}
+use Rattle.octets.specs.Row.{row, isSome}
 use Rattle.phase.specs.declared.Phase.the-variants.{Idle}
 use Rattle.record.specs.Line.{Line}
-use Rattle.table.specs.Slots.{Slot, Free, Used, hasLine, isOpen, lineAt, put, slotsOf}
+use Rattle.table.specs.Slots.{Slot, Free, Used, isOpen, lineAt, put, slotsOf}
 use Rattle.table.specs.Table.{isTable}
 use Rattle.rules.specs.Answer.{Answer, eventRoom, listed, numbersOf, refused}
 use Rattle.rules.specs.Call.{Event, start, country, address, begin, init, eap, reply, final, error, congestion, give-up, child-made, child-deleted, ike-delete, Call, opening, closing, listing, timed, pairOf, tenantOf}
@@ -85,7 +85,7 @@ timedStep tenant line time e v found =
     let o = outcome e (current time x) in
     record {
       refusals =
-          (1 when not (v .sound)) ∷ (2 when isNoPair tenant line) ∷ (3 when isShort e) ∷ (5 when not (hasLine found)) ∷ (7 when ltb time (x .time))
+          (1 when not (v .sound)) ∷ (2 when isNoPair tenant line) ∷ (3 when isShort e) ∷ (5 when not (isSome found)) ∷ (7 when ltb time (x .time))
           ∷ refusalsOf e (ltb 4294967295 time) (current time x);
       act = replace (pairOf tenant line) (Used (pairOf tenant line) (o .line));
       answer = answerOf e o;
@@ -94,12 +94,12 @@ timedStep tenant line time e v found =
 unfoldable pub step : Call → View → Step
 step (opening tenant line) v = record {
   refusals =
-      (1 when not (v .sound)) ∷ (2 when isNoPair tenant line) ∷ (4 when hasLine (getD (v .lines) line none)) ∷ (6 when not (v .free)) ∷ [];
+      (1 when not (v .sound)) ∷ (2 when isNoPair tenant line) ∷ (4 when isSome (getD (v .lines) line none)) ∷ (6 when not (v .free)) ∷ [];
   act = replace 0 (Used (pairOf tenant line) fresh);
   answer = bare;
 }
 step (closing tenant line) v = record {
-  refusals = (1 when not (v .sound)) ∷ (2 when isNoPair tenant line) ∷ (5 when not (hasLine (getD (v .lines) line none))) ∷ [];
+  refusals = (1 when not (v .sound)) ∷ (2 when isNoPair tenant line) ∷ (5 when not (isSome (getD (v .lines) line none))) ∷ [];
   act = replace (pairOf tenant line) Free;
   answer = bare;
 }

@@ -9,9 +9,9 @@ use Rattle.addresses.specs.Addresses.{addressOctets}
 use Rattle.octets.specs.Row.{joined}
 use Rattle.text.specs.Text.{text}
 use Rattle.rules.specs.Answer.{Action, Answer, stopped, ask-country, ask-text, ask-built, chose}
-use Rattle.rules.specs.Call.{Given, start, country, address, Call}
-use Rattle.rules.specs.Cases.{abroad, acts, atHome, atHome6, congest, given, named, network, node, now, plain, registeredTo, roaming, shown, toIdle, toName, writes}
-use Rattle.rules.specs.Computed.{Example, found, said}
+use Rattle.rules.specs.Call.{StartNumbers, start, country, address, Call}
+use Rattle.rules.specs.Cases.{abroad, acts, atHome, atHome6, congest, startNumbers, named, network, node, now, plain, registeredTo, roaming, shown, toIdle, toName, writes}
+use Rattle.rules.specs.Computed.{Example, got, said}
 
 -- a stop and a choice leave the name buffer all zeros and the part empty; a built name is both the part and what is written
 unfoldable pub gives : Action → Answer
@@ -27,12 +27,12 @@ unfolding writes
 asksCountry name = writes 64 (ask-country 52) (text name) (text name)
 
 -- what start answers
-unfoldable pub starting : Given → List ℕ → Answer → Example
+unfoldable pub starting : StartNumbers → List ℕ → Answer → Example
 unfolding now toIdle
 starting g text answer = record { before = toIdle; calls = now (start g text 64) ∷ []; says = answer ∷ [] }
 
 -- what the country answer answers, with the text that start had
-unfoldable pub answering : Given → List ℕ → ℕ → List ℕ → Answer → Example
+unfoldable pub answering : StartNumbers → List ℕ → ℕ → List ℕ → Answer → Example
 unfolding now toIdle
 answering g text replied networks answer = record {
   before = toIdle ++ now (start g text 64) ∷ [];
@@ -46,11 +46,11 @@ unfolding acts now
 choosing before list action = record { before = before; calls = now (address (joined addressOctets list)) ∷ []; says = acts action ∷ [] }
 
 unfoldable pub selections : List Example
-unfolding abroad answering asks asksCountry atHome atHome6 congest given gives choosing named network node now plain registeredTo roaming shown
+unfolding abroad answering asks asksCountry atHome atHome6 congest startNumbers gives choosing named network node now plain registeredTo roaming shown
     starting toIdle toName writes
 selections =
     -- S1, place unknown: stop 1
-    starting (given 0 0 0 0 0 4) node (gives (stopped 1 0))
+    starting (startNumbers 0 0 0 0 0 4) node (gives (stopped 1 0))
     -- S2, home: a `node` address is treated as an answer list of one
     ∷ starting atHome node (gives (chose (V4 0xc0000207) 0))
     ∷ starting atHome6 node (gives (stopped 4 1))
@@ -114,6 +114,6 @@ selections =
     (chose (V4 0xc0000208) 1)
     ∷ []
 
-pub selections-computed : map found selections ≡ map said selections
-unfolding selections found said
+pub selections-computed : map got selections ≡ map said selections
+unfolding selections got said
 selections-computed = refl

@@ -134,13 +134,13 @@ starred =
     }
     ∷ []
 
-unfoldable pub found : Example → List ℕ
+unfoldable pub got : Example → List ℕ
 unfolding evaluated
-found e = evaluated (e .gives)
+got e = evaluated (e .gives)
 
 unfoldable pub said : Example → List ℕ
 said e = e .says
 
-pub computed : map found starred ≡ map said starred
-unfolding starred found said
+pub computed : map got starred ≡ map said starred
+unfolding starred got said
 computed = refl

@@ -24,7 +24,7 @@ use Rattle.place.specs.declared.Place.{Place}
 use Rattle.place.specs.declared.Place.the-variants.{Unknown, Home, Abroad}
 use Rattle.gateway.specs.Gateway.{foundAt, choose}
 use Rattle.selection.specs.Selection.{registered, byNode, atHome, direct, abroad, startAt, start, askOr, ifListed, noneListed, oneOrMore, country}
-use Rattle.selection.specs.Stops.{homeStep, startStep, lastStep, countryStep, addresses, networks, Ends, stopFound, stopOf, Exactly, StopsExactly}
+use Rattle.selection.specs.Stops.{homeReached, startReached, lastReached, countryReached, addresses, networks, Ends, stopFound, stopOf, Exactly, StopsExactly}
 use Rattle.selection.specs.declared.Choice.the-variants.{Stop, Country, Network}
 use Rattle.place.specs.declared.Facts.{Facts}
 
@@ -115,8 +115,8 @@ module _ (version : ℕ) (held : List Address) where
 
 module _ (s : Settings) (version : ℕ) (held : List Address) where
   -- S2
-  home-exactly : (home : Plmn) (n : Node) → Exactly (Ends s version held (homeStep n)) (stopOf version held (byNode home n))
-  unfolding homeStep byNode stopOf
+  home-exactly : (home : Plmn) (n : Node) → Exactly (Ends s version held (homeReached n)) (stopOf version held (byNode home n))
+  unfolding homeReached byNode stopOf
   home-exactly home Node.None = asking
   home-exactly home (Node.Name at n) = asking
   home-exactly home (Node.Address a) = s5-exactly version held s (a ∷ [])
@@ -127,16 +127,16 @@ module _ (s : Settings) (version : ℕ) (held : List Address) where
   abroad-exactly true p mcc = asking
   abroad-exactly false p mcc = asking
 
-  place-exactly : (place : Place) (r : Option Plmn) → Exactly (Ends s version held (startStep s place)) (stopOf version held (startAt s r place))
-  unfolding startStep startAt atHome abroad stopOf
+  place-exactly : (place : Place) (r : Option Plmn) → Exactly (Ends s version held (startReached s place)) (stopOf version held (startAt s r place))
+  unfolding startReached startAt atHome abroad stopOf
   place-exactly Unknown r = stopping 1
   place-exactly Home r = home-exactly (s .home) (s .node)
   place-exactly (Abroad mcc) none = asking
   place-exactly (Abroad mcc) (some p) = abroad-exactly (direct s p) p mcc
 
   -- S4 where none is listed
-  last-exactly : (l : List Preferred) → Exactly (Ends s version held (lastStep l (s .node))) (stopOf version held (askOr (networkOf (best l)) (atHome s)))
-  unfolding lastStep best networkOf askOr atHome stopOf
+  last-exactly : (l : List Preferred) → Exactly (Ends s version held (lastReached l (s .node))) (stopOf version held (askOr (networkOf (best l)) (atHome s)))
+  unfolding lastReached best networkOf askOr atHome stopOf
   last-exactly [] = home-exactly (s .home) (s .node)
   last-exactly (x ∷ xs) = asking
 
@@ -219,7 +219,7 @@ module _ (s : Settings) where
     }
 
 pub stops-exactly : StopsExactly
-unfolding start country countryStep noneListed ranked stopOf
+unfolding start country countryReached noneListed ranked stopOf
 stops-exactly = record {
   at-start = λ s f held. place-exactly s (f .version) held (f .place) (registered s f);
   at-country = λ s f held answer. go s f held answer;
@@ -227,7 +227,7 @@ stops-exactly = record {
 }
   where
     go : (s : Settings) (f : Facts) (held : List Address) (answer : Option (List Plmn))
-        → Exactly (Ends s (f .version) held (countryStep s (f .place) answer)) (stopOf (f .version) held (country s f answer))
+        → Exactly (Ends s (f .version) held (countryReached s (f .place) answer)) (stopOf (f .version) held (country s f answer))
     go s f held none = stopping 2
     go s f held (some []) = last-exactly s (f .version) held (only (eligible s [] (f .place)) (s .plmns))
     go s f held (some (q ∷ qs)) = listed-exactly s (f .version) held f q qs

@@ -83,6 +83,6 @@ country s f (some []) = noneListed s f
 country s f (some (p ∷ ps)) = oneOrMore s f (p ∷ ps)
 
 -- the answer that the daemon hands in
-unfoldable pub answered : Bool → List Plmn → Option (List Plmn)
-answered true ps = some ps
-answered false ps = none
+unfoldable pub countryReply : Bool → List Plmn → Option (List Plmn)
+countryReply true ps = some ps
+countryReply false ps = none

@@ -26,41 +26,41 @@ use Rattle.selection.specs.declared.Choice.the-variants as Choice
 use Rattle.place.specs.declared.Facts.{Facts}
 
 -- the step that a call reaches: a name is asked, or it may stop at one of four
-pub data Step : Type 0 where
-  asks : Step
+pub data Reached : Type 0 where
+  asks : Reached
   -- S1: the place is unknown
-  lost : Step
+  lost : Reached
   -- S4: the country query got no reply
-  unanswered : Step
+  unanswered : Reached
   -- S4: one or more networks are listed
-  networks : List Plmn → Step
+  networks : List Plmn → Reached
   -- S5: a list of addresses is gone through
-  addresses : List Address → Step
+  addresses : List Address → Reached
 
 -- S2 asks a name unless `node` gives an address
-unfoldable pub homeStep : Node → Step
-homeStep Node.None = asks
-homeStep (Node.Name at n) = asks
-homeStep (Node.Address a) = addresses (a ∷ [])
+unfoldable pub homeReached : Node → Reached
+homeReached Node.None = asks
+homeReached (Node.Name at n) = asks
+homeReached (Node.Address a) = addresses (a ∷ [])
 
-unfoldable pub startStep : Settings → Place → Step
-startStep s Unknown = lost
-startStep s Home = homeStep (s .node)
-startStep s (Abroad mcc) = asks
+unfoldable pub startReached : Settings → Place → Reached
+startReached s Unknown = lost
+startReached s Home = homeReached (s .node)
+startReached s (Abroad mcc) = asks
 
 -- where none is listed, a network with a `plmn` record is asked for, and S2 is the last resort
-unfoldable pub lastStep : List Preferred → Node → Step
-lastStep (x ∷ xs) n = asks
-lastStep [] n = homeStep n
+unfoldable pub lastReached : List Preferred → Node → Reached
+lastReached (x ∷ xs) n = asks
+lastReached [] n = homeReached n
 
-unfoldable pub countryStep : Settings → Place → Option (List Plmn) → Step
-countryStep s place none = unanswered
-countryStep s place (some []) = lastStep (only (eligible s [] place) (s .plmns)) (s .node)
-countryStep s place (some (p ∷ ps)) = networks (p ∷ ps)
+unfoldable pub countryReached : Settings → Place → Option (List Plmn) → Reached
+countryReached s place none = unanswered
+countryReached s place (some []) = lastReached (only (eligible s [] place) (s .plmns)) (s .node)
+countryReached s place (some (p ∷ ps)) = networks (p ∷ ps)
 
 -- a step has nothing that is permitted, and n is its number
 module _ (s : Settings) (version : ℕ) (held : List Address) where
-  abbrev pub Ends : Step → ℕ → Type 0
+  abbrev pub Ends : Reached → ℕ → Type 0
   Ends asks n = ⊥
   Ends lost n = n ≡ 1
   Ends unanswered n = n ≡ 2
@@ -86,8 +86,8 @@ pub record Exactly (ends : ℕ → Type 0) (stop : Option ℕ) : Type 0 where
 
 pub record StopsExactly : Type 0 where
   pub at-start : (s : Settings) (f : Facts) (held : List Address)
-      → Exactly (Ends s (f .version) held (startStep s (f .place))) (stopOf (f .version) held (start s f))
+      → Exactly (Ends s (f .version) held (startReached s (f .place))) (stopOf (f .version) held (start s f))
   pub at-country : (s : Settings) (f : Facts) (held : List Address) (answer : Option (List Plmn))
-      → Exactly (Ends s (f .version) held (countryStep s (f .place) answer)) (stopOf (f .version) held (country s f answer))
+      → Exactly (Ends s (f .version) held (countryReached s (f .place) answer)) (stopOf (f .version) held (country s f answer))
   pub at-address : (s : Settings) (version : ℕ) (held xs : List Address)
       → Exactly (Ends s version held (addresses xs)) (stopFound (choose version held xs))

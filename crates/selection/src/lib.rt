@@ -17,7 +17,7 @@ ghost use mathlib.Core.Path.{_≡_};
 ghost use Rattle.network.specs.Plmn.{plmnOption};
 ghost use Rattle.config.specs.Settings.{Counted, settingsIn};
 ghost use Rattle.lists.specs.Lists.{networksIn};
-ghost use Rattle.selection.specs.Selection.{abroad, answered, askOr, atHome, counting, country, direct, homeAbroad, ifListed, oneOrMore, start};
+ghost use Rattle.selection.specs.Selection.{abroad, countryReply, askOr, atHome, counting, country, direct, homeAbroad, ifListed, oneOrMore, start};
 ghost use Rattle.preference.specs.Preference.{ranked};
 ghost use Rattle.selection.specs.Stops.{StopsExactly};
 
@@ -173,7 +173,7 @@ fn none_listed(config: Config, place: Place, networks: &[u8]) -> Choice
 // What the country answer comes to.
 pub fn country(config: Config, facts: Facts, replied: bool, networks: &[u8]) -> Choice
     requires { ⌜ Counted config ⌝ }
-    ensures { λ r. ⌜ r ≡ country (settingsIn config) facts (answered replied (networksIn (now (networks .entry)))) ⌝ }
+    ensures { λ r. ⌜ r ≡ country (settingsIn config) facts (countryReply replied (networksIn (now (networks .entry)))) ⌝ }
 {
     if !replied {
         return Choice::Stop(2);

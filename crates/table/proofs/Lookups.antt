@@ -9,20 +9,21 @@ use lib.Dec.{leb}
 use borrow.Author.Tests.{eqb-true, eq-eqb, ne-eqb, le-leb, not-true}
 use Rattle.octets.specs.Search.{anyOf, distinct}
 use Rattle.octets.proofs.Search.{and-left, and-right, or-left, or-right}
-use Rattle.table.specs.Slots.{Slot, Free, Used, hasLine, pairIn, isOf, isOpen, slotLine, lineAt, samePair, pairsOnce, replaced}
+use Rattle.octets.specs.Row.{isSome}
+use Rattle.table.specs.Slots.{Slot, Free, Used, pairIn, isOf, isOpen, slotLine, lineAt, samePair, pairsOnce, replaced}
 
 -- a slot of a pair has a line
-used-line : (pair : ℕ) → 1 ≤ pair → (s : Slot) → pairIn s ≡ pair → hasLine (slotLine s) ≡ true
-unfolding pairIn slotLine hasLine
+used-line : (pair : ℕ) → 1 ≤ pair → (s : Slot) → pairIn s ≡ pair → isSome (slotLine s) ≡ true
+unfolding pairIn slotLine isSome
 used-line pair low Free e = absurd (omega arith)
 used-line pair low (Used p x) e = refl
 
-pub open-line : (pair : ℕ) → 1 ≤ pair → (ss : List Slot) → isOpen pair ss ≡ hasLine (lineAt pair ss)
-unfolding isOpen anyOf lineAt hasLine isOf
+pub open-line : (pair : ℕ) → 1 ≤ pair → (ss : List Slot) → isOpen pair ss ≡ isSome (lineAt pair ss)
+unfolding isOpen anyOf lineAt isSome isOf
 open-line pair low [] = refl
 open-line pair low (s ∷ ss) = go (isOf pair s) refl (open-line pair low ss)
   where
-    go : (b : Bool) → isOf pair s ≡ b → isOpen pair ss ≡ hasLine (lineAt pair ss) → b || isOpen pair ss ≡ hasLine (cond b (slotLine s) (lineAt pair ss))
+    go : (b : Bool) → isOf pair s ≡ b → isOpen pair ss ≡ isSome (lineAt pair ss) → b || isOpen pair ss ≡ isSome (cond b (slotLine s) (lineAt pair ss))
     go true e rest = sym (used-line pair low s (eqb-true (pairIn s) pair e))
     go false e rest = rest
 

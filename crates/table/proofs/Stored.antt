@@ -18,7 +18,7 @@ use Rattle.octets.proofs.Octets.{zeros-octets}
 use Rattle.octets.proofs.Parts.{equal-same, length-part, length-zeros, same-equal}
 use Rattle.octets.proofs.Search.{and-left, and-right, either, or-true}
 use Rattle.octets.proofs.Splices.{sets-pass}
-use Rattle.record.specs.Laws.{lineHeld}
+use Rattle.record.specs.Laws.{lineStorable}
 use Rattle.record.specs.Line.{Line}
 use Rattle.record.specs.Octets.{lineFrom, recordOctets}
 use Rattle.record.specs.Sound.{isRecord, lineSound, lineWritten}
@@ -31,7 +31,7 @@ use Rattle.table.proofs.Puts.{Kept, pair-from, pair-in, slot-here, slot
 use Rattle.table.proofs.Views.{found-pair, not-before, open-found, slots-after, zeros-pair}
 
 -- what a slot's octets are where a record can hold it
-pub record Held (s : Slot) : Type 0 where
+pub record Storable (s : Slot) : Type 0 where
   pub wide : length (slotOctets s) ≡ 243
   pub kept : Kept (slotOctets s)
   pub back : slotFrom (slotOctets s) ≡ s
@@ -41,18 +41,18 @@ slot-of : (o : List ℕ) (pair : ℕ) (x : Line) → 1 ≤ pair → field o 0 1 
 unfolding slotFrom
 slot-of o pair x low e f = rw (ne-eqb (field o 0 1) 0 (λ q. omega arith)) (ap₂ Used e f)
 
-pub held : (s : Slot) → slotFits s ≡ true → Held s
+pub storable : (s : Slot) → slotFits s ≡ true → Storable s
 unfolding slotFits slotOctets slotFrom
-held Free e = record {
+storable Free e = record {
   wide = length-zeros 243;
   kept = ap (λ (b : Bool). b || isRecord (zeros 243)) (equal-same (zeros 243));
   back = rw zeros-pair;
 }
-held (Used pair x) e =
+storable (Used pair x) e =
     let fits = leb 1 pair && leb pair 64 in
-    let line : fits && lineSound x ≡ true = and-left (fits && lineSound x) (lineHeld x) e in
+    let line : fits && lineSound x ≡ true = and-left (fits && lineSound x) (lineStorable x) e in
     let sound : lineSound x ≡ true = and-right fits (lineSound x) line in
-    let in-octets : lineHeld x ≡ true = and-right (fits && lineSound x) (lineHeld x) e in
+    let in-octets : lineStorable x ≡ true = and-right (fits && lineSound x) (lineStorable x) e in
     let low : 1 ≤ pair = leb-true 1 pair (and-left (leb 1 pair) (leb pair 64) (and-left fits (lineSound x) line)) in
     let high : pair ≤ 64 = leb-true pair 64 (and-right (leb 1 pair) (leb pair 64) (and-left fits (lineSound x) line)) in
     record {
@@ -62,10 +62,10 @@ held (Used pair x) e =
     }
 
 -- the octets of a slot that is read back say its pair
-pub held-pair : (s : Slot) → Held s → field (slotOctets s) 0 1 ≡ pairIn s
+pub held-pair : (s : Slot) → Storable s → field (slotOctets s) 0 1 ≡ pairIn s
 held-pair s h = sym (pair-from (slotOctets s)) ∙ ap pairIn (h .back)
 
-module _ (l : List ℕ) (pair : ℕ) (s : Slot) (sound : isTable l ≡ true) (found : recordOf l pair < 32) (h : Held s) where
+module _ (l : List ℕ) (pair : ℕ) (s : Slot) (sound : isTable l ≡ true) (found : recordOf l pair < 32) (h : Storable s) where
   abbrev i : ℕ
   i = recordOf l pair
 

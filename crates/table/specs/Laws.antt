@@ -9,16 +9,17 @@ use lib.ListN.{replicate}
 use Rattle.octets.specs.Laws.{below}
 use Rattle.octets.specs.Part.{zeros}
 use Rattle.octets.specs.Search.{allOf}
-use Rattle.record.specs.Laws.{lineHeld}
+use Rattle.octets.specs.Row.{isSome}
+use Rattle.record.specs.Laws.{lineStorable}
 use Rattle.record.specs.Octets.{lineFrom}
 use Rattle.record.specs.Sound.{lineSound}
-use Rattle.table.specs.Slots.{Slot, Free, Used, hasLine, isOf, isOpen, lineAt, octetsOf, openPairs, pairIn, pairsOnce, put, replaced, slotLine, slotOctets, slotsOf}
+use Rattle.table.specs.Slots.{Slot, Free, Used, isOf, isOpen, lineAt, octetsOf, openPairs, pairIn, pairsOnce, put, replaced, slotLine, slotOctets, slotsOf}
 use Rattle.table.specs.Table.{isTable, pairAt, recordOf, slot}
 
 -- a record can hold a slot
 unfoldable pub slotFits : Slot → Bool
 slotFits Free = true
-slotFits (Used pair x) = leb 1 pair && leb pair 64 && lineSound x && lineHeld x
+slotFits (Used pair x) = leb 1 pair && leb pair 64 && lineSound x && lineStorable x
 
 -- a slot may stand in the place of a pair's: it is free, of the same pair, or of one that is not open
 unfoldable pub mayStand : ℕ → Slot → List Slot → Bool
@@ -58,4 +59,4 @@ pub record Laws : Type 0 where
   pub line-other : (pair : ℕ) (s : Slot) (q : ℕ) → (pair ≡ q → ⊥) → (pairIn s ≡ q → ⊥) → (ss : List Slot)
       → lineAt q (replaced pair s ss) ≡ lineAt q ss
   -- a pair is open exactly where it has a line
-  pub open-line : (pair : ℕ) → 1 ≤ pair → (ss : List Slot) → isOpen pair ss ≡ hasLine (lineAt pair ss)
+  pub open-line : (pair : ℕ) → 1 ≤ pair → (ss : List Slot) → isOpen pair ss ≡ isSome (lineAt pair ss)

@@ -57,10 +57,6 @@ unfoldable pub lineAt : ℕ → List Slot → Option Line
 lineAt pair [] = none
 lineAt pair (s ∷ ss) = cond (isOf pair s) (slotLine s) (lineAt pair ss)
 
-unfoldable pub hasLine : Option Line → Bool
-hasLine none = false
-hasLine (some x) = true
-
 -- no pair twice
 unfoldable pub samePair : Slot → Slot → Bool
 samePair s t = leb 1 (pairIn s) && isOf (pairIn s) t

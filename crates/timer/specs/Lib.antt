@@ -1,3 +1,2 @@
 -- What the timer octet says.
 pub mod Timer
-pub mod Examples

@@ -3,30 +3,30 @@ use Prim.Native.Nat.{ℕ, _+_, _-_, _≤_, _<_}
 use mathlib.Core.Bool.{Bool, true, false, _||_}
 use mathlib.Core.List.{List}
 use mathlib.Core.Path.{_≡_, refl, sym, _∙_}
-use lib.ListN.{length, getD, drop}
+use lib.ListN.{length, getD, drop, take}
 use borrow.Author.Needs.{needs}
 use Rattle.octets.specs.Search.{anyOf}
 use Rattle.address.specs.declared.Address.{Address}
 use Rattle.address.specs.declared.Hold.{Hold}
-use Rattle.address.specs.Address.{heldIn, sameAddress, stands}
+use Rattle.address.specs.Address.{heldAddresses, sameAddress, stands}
 use Rattle.address.proofs.Holds.{none, held-more, held-done}
 use Rattle.address.proofs.is_held.Statement.{statement}
 use Rattle.address.proofs.is_held.Tie as tie
 
 abbrev Inv-loop : tie.InvT-loop
-Inv-loop from n a holds i₀ i = (i ≤ n) × (stands a (drop from (heldIn holds n)) ≡ stands a (drop i (heldIn holds n)))
+Inv-loop from n a holds i₀ i = (i ≤ n) × (stands a (drop from (heldAddresses (take n holds))) ≡ stands a (drop i (heldAddresses (take n holds))))
 
 abbrev μ-loop : tie.MeasureT-loop
 μ-loop from n a holds i₀ i = n - i
 
 module _ (l : List Hold) (n i : ℕ) (a : Address) (long : n ≤ length l) where
   -- the next hold decides first
-  next : i < n → (t : Bool) → sameAddress a (getD l i none .address) ≡ t → stands a (drop i (heldIn l n)) ≡ t || stands a (drop (i + 1) (heldIn l n))
+  next : i < n → (t : Bool) → sameAddress a (getD l i none .address) ≡ t → stands a (drop i (heldAddresses (take n l))) ≡ t || stands a (drop (i + 1) (heldAddresses (take n l)))
   unfolding stands anyOf
   next h t e = rw (held-more l n i long h, e)
 
   -- none is left
-  done : n ≤ i → stands a (drop i (heldIn l n)) ≡ false
+  done : n ≤ i → stands a (drop i (heldAddresses (take n l))) ≡ false
   unfolding stands anyOf
   done h = rw (held-done l n i long h)
 

@@ -7,10 +7,11 @@ use mathlib.Core.Path.{_≡_, sym, ap, _∙_}
 use native.Mathlib.Nat.{zero-add, sub-zero}
 use native.Mathlib.Omega.{arith}
 use denote.Ref.{now}
+use lib.ListN.{take}
 use borrow.Author.Needs.{needs}
 use Rattle.octets.specs.Row.{row, place}
 use Rattle.octets.proofs.Rows.{drop-row, row-more, row-done, place-more, place-here, place-none}
-use Rattle.address.specs.Address.{heldIn, permitted}
+use Rattle.address.specs.Address.{heldAddresses, permitted}
 use Rattle.address.specs.declared.Address.{Address}
 use Rattle.lists.specs.Lists.{addressAt, addressesIn}
 use Rattle.gateway.specs.declared.Found.the-variants.{Chosen, Nothing}
@@ -27,7 +28,7 @@ abbrev foundFrom : ℕ → List Address → (ℕ → Address) → ℕ → ℕ �
 foundFrom local held f n i = i + place (permitted local held) (row f i (n - i))
 
 abbrev Inv-loop : tie.InvT-loop
-Inv-loop list local holds n count i₀ i = (i ≤ count) × (found local (heldIn holds n) (addressAt list) count ≡ foundFrom local (heldIn holds n) (addressAt list) count i)
+Inv-loop list local holds n count i₀ i = (i ≤ count) × (found local (heldAddresses (take n holds)) (addressAt list) count ≡ foundFrom local (heldAddresses (take n holds)) (addressAt list) count i)
 
 abbrev μ-loop : tie.MeasureT-loop
 μ-loop list local holds n count i₀ i = count - i
@@ -65,7 +66,7 @@ unfolding addressesIn
 returns c =
     let a = c .before .before .before .before .before .before .args in
     let at-loop = c .before .before .before .before .loop in
-    hit (a .local) (heldIn (a .holds) (a .n)) (addressAt (now (a .list))) (at-loop .i) _ (at-loop .inv .1) (c .before .before .before .loop-test .taken) (c .before .before .address-at .result) (c .before .before .address-at .ensures)
+    hit (a .local) (heldAddresses (take (a .n) (a .holds))) (addressAt (now (a .list))) (at-loop .i) _ (at-loop .inv .1) (c .before .before .before .loop-test .taken) (c .before .before .address-at .result) (c .before .before .address-at .ensures)
     (sym (c .before .is-permitted .ensures) ∙ c .if1 .taken)
 
 add-i : tie.Need-add-i Inv-loop μ-loop
@@ -79,7 +80,7 @@ loop-again c =
     let a = c .before .before .before .before .before .before .args in
     let at-loop = c .before .before .before .before .loop in (
       search needs,
-      miss (a .local) (heldIn (a .holds) (a .n)) (addressAt (now (a .list))) (at-loop .i) _ (at-loop .inv .1) (c .before .before .before .loop-test .taken) (c .before .before .address-at .result) (c .before .before .address-at .ensures)
+      miss (a .local) (heldAddresses (take (a .n) (a .holds))) (addressAt (now (a .list))) (at-loop .i) _ (at-loop .inv .1) (c .before .before .before .loop-test .taken) (c .before .before .address-at .result) (c .before .before .address-at .ensures)
           (sym (c .before .is-permitted .ensures) ∙ c .if1 .left),
     )
 
@@ -88,7 +89,7 @@ unfolding addressesIn
 returns-2 c =
     let a = c .before .before .before .args in
     let at-loop = c .before .loop in
-    none (a .local) (heldIn (a .holds) (a .n)) (addressAt (now (a .list))) (at-loop .i) _ (at-loop .inv .1) (c .loop-test .left)
+    none (a .local) (heldAddresses (take (a .n) (a .holds))) (addressAt (now (a .list))) (at-loop .i) _ (at-loop .inv .1) (c .loop-test .left)
 
 pub choose-spec : {M : Type 1} → statement M
 choose-spec =

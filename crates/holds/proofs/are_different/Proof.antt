@@ -3,10 +3,10 @@ use Prim.Native.Nat.{ℕ, _+_, _-_, _≤_, _<_}
 use mathlib.Core.List.{List}
 use mathlib.Core.Bool.{Bool, true, false, not, _&&_}
 use mathlib.Core.Path.{_≡_, refl, sym, _∙_}
-use lib.ListN.{length, getD, drop}
+use lib.ListN.{length, getD, drop, take}
 use borrow.Author.Needs.{needs}
 use Rattle.octets.specs.Search.{distinct}
-use Rattle.address.specs.Address.{heldIn, stands}
+use Rattle.address.specs.Address.{heldAddresses, stands}
 use Rattle.address.specs.declared.Hold.{Hold}
 use Rattle.address.proofs.Holds.{none, held-more, held-done}
 use Rattle.holds.specs.Holds.{different}
@@ -14,20 +14,20 @@ use Rattle.holds.proofs.are_different.Statement.{statement}
 use Rattle.holds.proofs.are_different.Tie as tie
 
 abbrev Inv-loop : tie.InvT-loop
-Inv-loop n list i₀ i = (i ≤ n) × (different (heldIn list n) ≡ different (drop i (heldIn list n)))
+Inv-loop n list i₀ i = (i ≤ n) × (different (heldAddresses (take n list)) ≡ different (drop i (heldAddresses (take n list))))
 
 abbrev μ-loop : tie.MeasureT-loop
 μ-loop n list i₀ i = n - i
 
 module _ (l : List Hold) (n i : ℕ) (long : n ≤ length l) where
   -- the next address against those behind it decides first
-  next : i < n → (t : Bool) → stands (getD l i none .address) (drop (i + 1) (heldIn l n)) ≡ t
-      → different (drop i (heldIn l n)) ≡ not t && different (drop (i + 1) (heldIn l n))
+  next : i < n → (t : Bool) → stands (getD l i none .address) (drop (i + 1) (heldAddresses (take n l))) ≡ t
+      → different (drop i (heldAddresses (take n l))) ≡ not t && different (drop (i + 1) (heldAddresses (take n l)))
   unfolding different distinct stands
   next h t e = rw (held-more l n i long h, e)
 
   -- none is left
-  done : n ≤ i → different (drop i (heldIn l n)) ≡ true
+  done : n ≤ i → different (drop i (heldAddresses (take n l))) ≡ true
   unfolding different distinct
   done h = rw (held-done l n i long h)
 

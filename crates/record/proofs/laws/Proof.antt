@@ -1,5 +1,5 @@
 -- `record::laws` meets its contract: each law is proved below proofs/.
-use Rattle.record.proofs.RoundTrip.{held, octets, pair-back, read-back, sound-back, write-back}
+use Rattle.record.proofs.RoundTrip.{storable, octets, pair-back, read-back, sound-back, write-back}
 use Rattle.record.proofs.Writing.{octet-count}
 use Rattle.record.proofs.laws.Statement.{statement}
 use Rattle.record.proofs.laws.Tie as tie
@@ -11,7 +11,7 @@ returns c = record {
   read-back = read-back;
   sound-back = sound-back;
   write-back = write-back;
-  held = held;
+  storable = storable;
   octets = octets;
 }
 

@@ -7,13 +7,13 @@ use borrow.Author.Needs.{needs}
 use Rattle.config.specs.Settings.{settingsIn}
 use Rattle.lists.specs.Lists.{networksIn}
 use Rattle.preference.proofs.Picks.{no-network, some-network}
-use Rattle.selection.specs.Selection.{answered, country}
+use Rattle.selection.specs.Selection.{countryReply, country}
 use Rattle.selection.proofs.Choices.{none-is, more-are}
 use Rattle.selection.proofs.country.Statement.{statement}
 use Rattle.selection.proofs.country.Tie as tie
 
 returns : tie.Need-returns
-unfolding answered country
+unfolding countryReply country
 returns c =
     let unreplied : c .before .before .args .replied ≡ false = not-true _ (c .if1 .taken) in
     sym (rw unreplied)
@@ -22,7 +22,7 @@ none-listed-requires : tie.Need-none-listed-requires
 none-listed-requires c κs = search needs
 
 returns-2 : tie.Need-returns-2
-unfolding answered
+unfolding countryReply
 returns-2 c =
     let a = c .before .before .before .before .args in
     let l = now (a .networks) in
@@ -33,7 +33,7 @@ one-or-more-requires : tie.Need-one-or-more-requires
 one-or-more-requires c κs = search needs
 
 returns-3 : tie.Need-returns-3
-unfolding answered
+unfolding countryReply
 returns-3 c =
     let a = c .before .before .before .before .args in
     let l = now (a .networks) in

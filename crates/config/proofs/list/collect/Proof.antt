@@ -15,7 +15,7 @@ use Rattle.entry.specs.declared.field.Preferred.{Preferred}
 use Rattle.network.specs.Plmn.{samePlmn}
 use Rattle.config.specs.Lines.{entriesFrom}
 use Rattle.config.specs.Branch.{ListedIs}
-use Rattle.config.specs.Settings.{plmnIn, asListed, run, rest}
+use Rattle.config.specs.Settings.{plmnIn, asListed, section, rest}
 use Rattle.config.specs.declared.list.Listed.{Listed}
 use Rattle.config.proofs.Collects.{not-accepted, all-collected, all-accepted, too-many, repeated, one-more, still-new}
 use Rattle.config.proofs.list.collect.Statement.{statement}
@@ -24,7 +24,7 @@ use Rattle.config.proofs.list.collect.Tie as tie
 abbrev Inv-loop : tie.InvT-loop
 Inv-loop text start bars list₀ count₀ at₀ list count at =
     (at ≤ length text) × (count ≤ 16) × (length list ≡ 16)
-    × (run (asListed bars) (entriesFrom text start) ≡ take count list ++ run (asListed bars) (entriesFrom text at))
+    × (section (asListed bars) (entriesFrom text start) ≡ take count list ++ section (asListed bars) (entriesFrom text at))
     × (rest (asListed bars) (entriesFrom text start) ≡ rest (asListed bars) (entriesFrom text at))
     × (distinct samePlmn (map plmnIn (take count list)) ≡ true)
 
@@ -125,7 +125,7 @@ loop-again c =
     let room : at-loop .count < 16 = next (at-loop .count) (at-loop .inv .1) (c .before .before .if1 .left) in
     let d = take (at-loop .count) (at-loop .list) in
     let p = c .before .before .before .before .p .given .0 .0 in
-    let Y = run (asListed (a .bars)) (entriesFrom (now (a .text)) (c .before .before .before .before .p .given .0 .1 .0)) in
+    let Y = section (asListed (a .bars)) (entriesFrom (now (a .text)) (c .before .before .before .before .p .given .0 .1 .0)) in
     let longer = snoc (at-loop .list) (at-loop .count) p (at-loop .inv .2) room in (
       one .3,
       omega arith,

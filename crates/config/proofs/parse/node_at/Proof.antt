@@ -7,7 +7,7 @@ use borrow.Author.Needs.{needs}
 use Rattle.config.specs.Branch.{LineIs}
 use Rattle.config.specs.Lines.{entriesFrom}
 use Rattle.config.specs.Settings.{asNode, NodeWithin}
-use Rattle.config.specs.declared.line.Line.{Line}
+use Rattle.config.specs.declared.line.TextLine.{TextLine}
 use Rattle.config.proofs.Wholes.{node-said, node-skipped, skip-within, node-within, no-node}
 use Rattle.config.proofs.parse.node_at.Statement.{statement}
 use Rattle.config.proofs.parse.node_at.Tie as tie
@@ -31,7 +31,7 @@ returns : tie.Need-returns
 returns c =
     let a = c .before .before .before .before .before .before .args in
     let l = now (a .text) in
-    let line = subst (λ (r : Line). LineIs (now (a .text)) (a .at) r) (c .before .before .e .given .1) (c .before .before .before .before .line-at .ensures) in
+    let line = subst (λ (r : TextLine). LineIs (now (a .text)) (a .at) r) (c .before .before .e .given .1) (c .before .before .before .before .line-at .ensures) in
     record {
       node-is = c .node-of .ensures .0 ∙ node-said l (a .at) _ _ (line .0);
       rest-is = node-skipped l (a .at) _ _ (line .0) ∙ ap (entriesFrom l) (sym (c .node-of .ensures .1));
@@ -43,14 +43,14 @@ returns-2 : tie.Need-returns-2
 unfolding asNode
 returns-2 c =
     let a = c .before .before .before .before .args in
-    let said = no-node (now (a .text)) (a .at) _ refl (subst (λ (r : Line). LineIs (now (a .text)) (a .at) r) (c .enum-told .given .1) (c .before .before .line-at .ensures) .0) in
+    let said = no-node (now (a .text)) (a .at) _ refl (subst (λ (r : TextLine). LineIs (now (a .text)) (a .at) r) (c .enum-told .given .1) (c .before .before .line-at .ensures) .0) in
     record { node-is = said .0; rest-is = said .1; next-within = c .before .before .before .before .pre; name-within = tt }
 
 returns-3 : tie.Need-returns-3
 unfolding asNode
 returns-3 c =
     let a = c .before .before .before .before .args in
-    let said = no-node (now (a .text)) (a .at) _ refl (subst (λ (r : Line). LineIs (now (a .text)) (a .at) r) (c .enum-told2 .given .1) (c .before .before .line-at .ensures)) in
+    let said = no-node (now (a .text)) (a .at) _ refl (subst (λ (r : TextLine). LineIs (now (a .text)) (a .at) r) (c .enum-told2 .given .1) (c .before .before .line-at .ensures)) in
     record { node-is = said .0; rest-is = said .1; next-within = c .before .before .before .before .pre; name-within = tt }
 
 pub node-at-spec : {M : Type 1} → statement M

@@ -8,42 +8,42 @@ use lib.ListN.{getD}
 use denote.Ref.{now}
 use borrow.Author.Needs.{needs}
 use borrow.Author.Tests.{eq-eqb, ne-eqb}
-use Rattle.octets.specs.Part.{holds}
+use Rattle.octets.specs.Part.{octetIs}
 use Rattle.octets.specs.Search.{least}
 use Rattle.octets.proofs.Search.{least-found, least-more}
 use Rattle.octets.proofs.slice.find.Statement.{statement}
 use Rattle.octets.proofs.slice.find.Tie as tie
 
 abbrev Inv-loop : tie.InvT-loop
-Inv-loop s from to x i₀ i = (from ≤ i) × (i ≤ to) × (least (i - from) (holds s from x) ≡ i - from)
+Inv-loop s from to x i₀ i = (from ≤ i) × (i ≤ to) × (least (i - from) (octetIs s from x) ≡ i - from)
 
 abbrev μ-loop : tie.MeasureT-loop
 μ-loop s from to x i₀ i = to - i
 
-module _ (l : List ℕ) (from i to x : ℕ) (after : from ≤ i) (none : least (i - from) (holds l from x) ≡ i - from) where
+module _ (l : List ℕ) (from i to x : ℕ) (after : from ≤ i) (none : least (i - from) (octetIs l from x) ≡ i - from) where
   here : (t : ℕ) → getD l i 0 ≡ t → getD l (from + (i - from)) 0 ≡ t
   here t e =
       let place : from + (i - from) ≡ i = omega arith in
       ap (λ (k : ℕ). getD l k 0) place ∙ e
 
   -- the octet looked for is at i
-  hit : i < to → getD l i 0 ≡ x → i ≡ from + least (to - from) (holds l from x)
-  unfolding holds
+  hit : i < to → getD l i 0 ≡ x → i ≡ from + least (to - from) (octetIs l from x)
+  unfolding octetIs
   hit more e =
-      omega (arith, least-found (to - from) (holds l from x) (i - from) none (eq-eqb _ _ (here x e)) (omega arith))
+      omega (arith, least-found (to - from) (octetIs l from x) (i - from) none (eq-eqb _ _ (here x e)) (omega arith))
 
   -- it is not at i
-  miss : (getD l i 0 ≡ x → ⊥) → least (i + 1 - from) (holds l from x) ≡ i + 1 - from
-  unfolding holds
+  miss : (getD l i 0 ≡ x → ⊥) → least (i + 1 - from) (octetIs l from x) ≡ i + 1 - from
+  unfolding octetIs
   miss h =
       let next : suc (i - from) ≡ i + 1 - from = omega arith in
-      subst (λ (k : ℕ). least k (holds l from x) ≡ k) next
-      (least-more (i - from) (holds l from x) none (ne-eqb _ _ (subst (λ (t : ℕ). t ≡ x → ⊥) (sym (here (getD l i 0) refl)) h)))
+      subst (λ (k : ℕ). least k (octetIs l from x) ≡ k) next
+      (least-more (i - from) (octetIs l from x) none (ne-eqb _ _ (subst (λ (t : ℕ). t ≡ x → ⊥) (sym (here (getD l i 0) refl)) h)))
 
   -- it is nowhere
-  nowhere : i ≡ to → i ≡ from + least (to - from) (holds l from x)
+  nowhere : i ≡ to → i ≡ from + least (to - from) (octetIs l from x)
   nowhere e =
-      let all : least (to - from) (holds l from x) ≡ to - from = subst (λ (k : ℕ). least (k - from) (holds l from x) ≡ k - from) e none in
+      let all : least (to - from) (octetIs l from x) ≡ to - from = subst (λ (k : ℕ). least (k - from) (octetIs l from x) ≡ k - from) e none in
       omega arith
 
 loop-holds : tie.Need-loop-holds Inv-loop μ-loop

@@ -5,8 +5,8 @@ use lib.ListN.{length, take}
 use lib.Seq.{length-take-le}
 use borrow.Author.Tests.{not-true, not-false}
 use borrow.Author.Needs.{needs}
-use Rattle.address.specs.Address.{heldIn}
-use Rattle.record.proofs.Sounds.{no-room, held-twice, chosen-held, by-ends}
+use Rattle.address.specs.Address.{heldAddresses}
+use Rattle.record.proofs.Sounds.{no-room, held-twice, chosen-storable, by-ends}
 use Rattle.record.proofs.sound.are_holds.Statement.{statement}
 use Rattle.record.proofs.sound.are_holds.Tie as tie
 
@@ -24,7 +24,6 @@ are-different-requires : tie.Need-are-different-requires
 are-different-requires c κs = search needs
 
 returns-2 : tie.Need-returns-2
-unfolding heldIn
 returns-2 c =
     let a = c .before .before .before .before .args in
     let sized : length (a .list) ≡ 8 = search needs in
@@ -35,18 +34,16 @@ is-free-requires : tie.Need-is-free-requires
 is-free-requires c κs = search needs
 
 returns-3 : tie.Need-returns-3
-unfolding heldIn
 returns-3 c =
     let a = c .before .before .before .before .before .before .args in
     let sized : length (a .list) ≡ 8 = search needs in
     let size : length (take (a .n) (a .list)) ≡ a .n = length-take-le (a .n) (a .list) (omega arith) in
-    chosen-held (a .time) (a .phase) (take (a .n) (a .list)) (a .n) size (c .before .before .before .before .before .before .pre) (sym (c .before .before .before .before .before .has-room .ensures) ∙ not-false _ (c .before .before .before .before .if1 .left)) (sym (c .before .before .before .are-different .ensures) ∙ not-false _ (c .before .before .if2 .left)) (sym (c .before .is-free .ensures) ∙ not-true _ (c .if3 .taken))
+    chosen-storable (a .time) (a .phase) (take (a .n) (a .list)) (a .n) size (c .before .before .before .before .before .before .pre) (sym (c .before .before .before .before .before .has-room .ensures) ∙ not-false _ (c .before .before .before .before .if1 .left)) (sym (c .before .before .before .are-different .ensures) ∙ not-false _ (c .before .before .if2 .left)) (sym (c .before .is-free .ensures) ∙ not-true _ (c .if3 .taken))
 
 all-end-after-requires : tie.Need-all-end-after-requires
 all-end-after-requires c κs = search needs
 
 returns-4 : tie.Need-returns-4
-unfolding heldIn
 returns-4 c =
     let a = c .before .before .before .before .before .before .before .args in
     let sized : length (a .list) ≡ 8 = search needs in

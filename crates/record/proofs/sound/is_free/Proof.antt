@@ -2,7 +2,7 @@
 use mathlib.Core.Bool.{not}
 use mathlib.Core.Path.{sym, ap}
 use borrow.Author.Needs.{needs}
-use Rattle.record.specs.Sound.{chosen, isFree}
+use Rattle.record.specs.Sound.{chosen, chosenFree}
 use Rattle.record.proofs.sound.is_free.Statement.{statement}
 use Rattle.record.proofs.sound.is_free.Tie as tie
 
@@ -52,39 +52,39 @@ is-held-requires-6 : tie.Need-is-held-requires-6
 is-held-requires-6 c κs = search needs
 
 returns : tie.Need-returns
-unfolding isFree chosen
+unfolding chosenFree chosen
 returns c = sym (rw (c .enum-told .given .1))
 
 returns-2 : tie.Need-returns-2
-unfolding isFree chosen
+unfolding chosenFree chosen
 returns-2 c = sym (rw (c .enum-told2 .given .1))
 
 returns-3 : tie.Need-returns-3
-unfolding isFree chosen
+unfolding chosenFree chosen
 returns-3 c = sym (rw (c .enum-told3 .given .1))
 
 returns-4 : tie.Need-returns-4
-unfolding isFree chosen
+unfolding chosenFree chosen
 returns-4 c = rw (c .before .before .phase .given .1) (ap not (c .is-held .ensures))
 
 returns-5 : tie.Need-returns-5
-unfolding isFree chosen
+unfolding chosenFree chosen
 returns-5 c = rw (c .before .before .phase2 .given .1) (ap not (c .is-held2 .ensures))
 
 returns-6 : tie.Need-returns-6
-unfolding isFree chosen
+unfolding chosenFree chosen
 returns-6 c = rw (c .before .before .phase3 .given .1) (ap not (c .is-held3 .ensures))
 
 returns-7 : tie.Need-returns-7
-unfolding isFree chosen
+unfolding chosenFree chosen
 returns-7 c = rw (c .before .before .phase4 .given .1) (ap not (c .is-held4 .ensures))
 
 returns-8 : tie.Need-returns-8
-unfolding isFree chosen
+unfolding chosenFree chosen
 returns-8 c = rw (c .before .before .phase5 .given .1) (ap not (c .is-held5 .ensures))
 
 returns-9 : tie.Need-returns-9
-unfolding isFree chosen
+unfolding chosenFree chosen
 returns-9 c = rw (c .before .before .phase6 .given .1) (ap not (c .is-held6 .ensures))
 
 pub is-free-spec : {M : Type 1} → statement M
