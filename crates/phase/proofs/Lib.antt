@@ -4,4 +4,5 @@ pub mod Places
 pub mod Phases
 pub mod Writes
 pub mod Reading
+pub mod Stages
 pub mod Writing

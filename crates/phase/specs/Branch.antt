@@ -7,6 +7,8 @@ use Rattle.octets.specs.Part.{zerosAt}
 use Rattle.addresses.specs.Addresses.{addressFrom, isAddress}
 use Rattle.phase.specs.Facts.{placeFrom, placeFits, placeWritten, registeredFrom, registeredFits, registeredWritten, factsFrom, factsFit, factsWritten}
 use Rattle.phase.specs.Phase.{isAbroad, turnFrom, turnWritten}
+use Rattle.phase.specs.Stage.{stageNumber}
+use Rattle.phase.specs.Stage as Stage
 use Rattle.phase.specs.declared.Phase.{Phase}
 use Rattle.phase.specs.declared.Phase.the-variants.{Chosen, Init, Auth, Eap, Sure, Live}
 
@@ -21,9 +23,9 @@ isRegistered l at = registeredWritten l at && registeredFits (registeredFrom l a
 unfoldable pub havingFrom : List ℕ → ℕ → ℕ → Phase
 havingFrom l at n =
     let a = addressFrom l (at + 1) in
-    cond (eqb n 3) (Chosen a)
-    (cond (eqb n 4) (Init a)
-    (cond (eqb n 5) (Auth a) (cond (eqb n 6) (Eap a (turnFrom l (at + 18))) (cond (eqb n 7) (Sure a) (Live a)))))
+    cond (eqb n (stageNumber Stage.chosen)) (Chosen a)
+    (cond (eqb n (stageNumber Stage.init)) (Init a)
+    (cond (eqb n (stageNumber Stage.auth)) (Auth a) (cond (eqb n (stageNumber Stage.eap)) (Eap a (turnFrom l (at + 18))) (cond (eqb n (stageNumber Stage.sure)) (Sure a) (Live a)))))
 
 -- what stands behind the number of a phase: place facts, place facts abroad, an address, an address and an identifier
 unfoldable pub isAsking : List ℕ → ℕ → Bool

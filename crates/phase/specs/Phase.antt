@@ -11,6 +11,8 @@ use Rattle.place.specs.declared.Facts.{Facts}
 use Rattle.place.specs.declared.Place.{Place}
 use Rattle.place.specs.declared.Place.the-variants as Place
 use Rattle.phase.specs.Facts.{factsOctets, factsFrom, factsFit, factsWritten}
+use Rattle.phase.specs.Stage.{stageNumber}
+use Rattle.phase.specs.Stage as Stage
 use Rattle.phase.specs.declared.Phase.{Phase}
 use Rattle.phase.specs.declared.Phase.the-variants.{Idle, Country, Name, Chosen, Init, Auth, Eap, Sure, Live}
 use Rattle.phase.specs.declared.Turn.{Turn}
@@ -32,14 +34,14 @@ turnOctets (Answered i) = be 1 3 ++ be 1 i
 
 unfoldable pub phaseOctets : Phase → List ℕ
 phaseOctets Idle = zeros 20
-phaseOctets (Country f) = askingOctets 1 f
-phaseOctets (Name f) = askingOctets 2 f
-phaseOctets (Chosen a) = havingOctets 3 a
-phaseOctets (Init a) = havingOctets 4 a
-phaseOctets (Auth a) = havingOctets 5 a
-phaseOctets (Eap a t) = be 1 6 ++ addressOctets a ++ turnOctets t
-phaseOctets (Sure a) = havingOctets 7 a
-phaseOctets (Live a) = havingOctets 8 a
+phaseOctets (Country f) = askingOctets (stageNumber Stage.country) f
+phaseOctets (Name f) = askingOctets (stageNumber Stage.name) f
+phaseOctets (Chosen a) = havingOctets (stageNumber Stage.chosen) a
+phaseOctets (Init a) = havingOctets (stageNumber Stage.init) a
+phaseOctets (Auth a) = havingOctets (stageNumber Stage.auth) a
+phaseOctets (Eap a t) = be 1 (stageNumber Stage.eap) ++ addressOctets a ++ turnOctets t
+phaseOctets (Sure a) = havingOctets (stageNumber Stage.sure) a
+phaseOctets (Live a) = havingOctets (stageNumber Stage.live) a
 
 -- the phase at a place
 unfoldable pub turnFrom : List ℕ → ℕ → Turn
@@ -52,12 +54,13 @@ phaseFrom l at =
     let n = field l at 1 in
     let f = factsFrom l (at + 1) in
     let a = addressFrom l (at + 1) in
-    cond (eqb n 0) Idle
-    (cond (eqb n 1) (Country f)
-    (cond (eqb n 2) (Name f)
-    (cond (eqb n 3) (Chosen a)
-    (cond (eqb n 4) (Init a)
-    (cond (eqb n 5) (Auth a) (cond (eqb n 6) (Eap a (turnFrom l (at + 18))) (cond (eqb n 7) (Sure a) (Live a))))))))
+    cond (eqb n (stageNumber Stage.idle)) Idle
+    (cond (eqb n (stageNumber Stage.country)) (Country f)
+    (cond (eqb n (stageNumber Stage.name)) (Name f)
+    (cond (eqb n (stageNumber Stage.chosen)) (Chosen a)
+    (cond (eqb n (stageNumber Stage.init)) (Init a)
+    (cond (eqb n (stageNumber Stage.auth)) (Auth a)
+    (cond (eqb n (stageNumber Stage.eap)) (Eap a (turnFrom l (at + 18))) (cond (eqb n (stageNumber Stage.sure)) (Sure a) (Live a))))))))
 
 -- phase country only abroad
 unfoldable pub isAbroad : Place → Bool
@@ -84,9 +87,10 @@ turnWritten l at = leb 1 (field l at 1) && leb (field l at 1) 3
 unfoldable pub phaseWritten : List ℕ → ℕ → Bool
 phaseWritten l at =
     let n = field l at 1 in
-    cond (eqb n 0) (zerosAt l (at + 1) 19)
-    (cond (leb n 2) (factsWritten l (at + 1) && zerosAt l (at + 10) 10)
-    (cond (eqb n 6) (isAddress l (at + 1) && turnWritten l (at + 18)) (leb n 8 && isAddress l (at + 1) && zerosAt l (at + 18) 2)))
+    cond (eqb n (stageNumber Stage.idle)) (zerosAt l (at + 1) 19)
+    (cond (leb n (stageNumber Stage.name)) (factsWritten l (at + 1) && zerosAt l (at + 10) 10)
+    (cond (eqb n (stageNumber Stage.eap)) (isAddress l (at + 1) && turnWritten l (at + 18))
+    (leb n (stageNumber Stage.live) && isAddress l (at + 1) && zerosAt l (at + 18) 2)))
 
 -- a phase stands at a place
 unfoldable pub isPhase : List ℕ → ℕ → Bool

@@ -1,5 +1,14 @@
 // Phases in octets.
+use crate::AUTH;
+use crate::CHOSEN;
+use crate::COUNTRY;
+use crate::EAP;
+use crate::IDLE;
+use crate::INIT;
+use crate::LIVE;
+use crate::NAME;
 use crate::Phase;
+use crate::SURE;
 use crate::Turn;
 use crate::place_facts::is_facts;
 use crate::place_facts::put_facts;
@@ -64,19 +73,19 @@ fn read_having(list: &[u8], at: usize, number: u64) -> Phase
     ensures { λ r. ⌜ r ≡ havingFrom (now (list .entry)) at number ⌝ }
 {
     let address = read_address(list, at + 1);
-    if number == 3 {
+    if number == CHOSEN {
         return Phase::Chosen(address);
     }
-    if number == 4 {
+    if number == INIT {
         return Phase::Init(address);
     }
-    if number == 5 {
+    if number == AUTH {
         return Phase::Auth(address);
     }
-    if number == 6 {
+    if number == EAP {
         return Phase::Eap(address, read_turn(list, at + 18));
     }
-    if number == 7 {
+    if number == SURE {
         return Phase::Sure(address);
     }
     Phase::Live(address)
@@ -88,13 +97,13 @@ pub fn read_phase(list: &[u8], at: usize) -> Phase
     ensures { λ r. ⌜ r ≡ phaseFrom (now (list .entry)) at ⌝ }
 {
     let number = get(list, at, 1);
-    if number == 0 {
+    if number == IDLE {
         return Phase::Idle;
     }
-    if number == 1 {
+    if number == COUNTRY {
         return Phase::Country(read_facts(list, at + 1));
     }
-    if number == 2 {
+    if number == NAME {
         return Phase::Name(read_facts(list, at + 1));
     }
     read_having(list, at, number)
@@ -127,18 +136,18 @@ pub fn put_phase(list: &mut [u8], at: usize, phase: Phase)
 {
     match phase {
         Phase::Idle => put(list, at, 20, 0),
-        Phase::Country(facts) => put_asking(list, at, 1, facts),
-        Phase::Name(facts) => put_asking(list, at, 2, facts),
-        Phase::Chosen(address) => put_having(list, at, 3, address),
-        Phase::Init(address) => put_having(list, at, 4, address),
-        Phase::Auth(address) => put_having(list, at, 5, address),
+        Phase::Country(facts) => put_asking(list, at, COUNTRY, facts),
+        Phase::Name(facts) => put_asking(list, at, NAME, facts),
+        Phase::Chosen(address) => put_having(list, at, CHOSEN, address),
+        Phase::Init(address) => put_having(list, at, INIT, address),
+        Phase::Auth(address) => put_having(list, at, AUTH, address),
         Phase::Eap(address, turn) => {
-            put(list, at, 1, 6);
+            put(list, at, 1, EAP);
             put_address(list, at + 1, address);
             put_turn(list, at + 18, turn);
         }
-        Phase::Sure(address) => put_having(list, at, 7, address),
-        Phase::Live(address) => put_having(list, at, 8, address),
+        Phase::Sure(address) => put_having(list, at, SURE, address),
+        Phase::Live(address) => put_having(list, at, LIVE, address),
     }
 }
 
@@ -215,19 +224,19 @@ pub fn is_phase(list: &[u8], at: usize) -> bool
     ensures { λ r. ⌜ r ≡ isPhase (now (list .entry)) at ⌝ }
 {
     let number = get(list, at, 1);
-    if number == 0 {
+    if number == IDLE {
         return zeros_at(list, at + 1, 19);
     }
-    if number == 1 {
+    if number == COUNTRY {
         return is_country(list, at);
     }
-    if number == 2 {
+    if number == NAME {
         return is_asking(list, at);
     }
-    if number == 6 {
+    if number == EAP {
         return is_eap(list, at);
     }
-    if 8 < number {
+    if LIVE < number {
         return false;
     }
     is_having(list, at)

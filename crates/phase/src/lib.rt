@@ -4,7 +4,9 @@ mod place_facts;
 
 use address::Address;
 use place::Facts;
+ghost use mathlib.Core.Path.{_≡_};
 ghost use Rattle.phase.specs.Laws.{Laws};
+ghost use Rattle.phase.specs.Stage.{stageNumber, stageOf};
 
 // How far an EAP session is: the identifier that is owed or was answered last.
 pub enum Turn {
@@ -27,6 +29,42 @@ pub enum Phase {
     Eap(Address, Turn),
     Sure(Address),
     Live(Address),
+}
+
+// The number of each phase in a record.
+pub const IDLE: u64 = 0;
+
+pub const COUNTRY: u64 = 1;
+
+pub const NAME: u64 = 2;
+
+pub const CHOSEN: u64 = 3;
+
+pub const INIT: u64 = 4;
+
+pub const AUTH: u64 = 5;
+
+pub const EAP: u64 = 6;
+
+pub const SURE: u64 = 7;
+
+pub const LIVE: u64 = 8;
+
+// The number of a phase.
+pub fn number(phase: Phase) -> u64
+    ensures { λ r. ⌜ r ≡ stageNumber (stageOf phase) ⌝ }
+{
+    match phase {
+        Phase::Idle => IDLE,
+        Phase::Country(_) => COUNTRY,
+        Phase::Name(_) => NAME,
+        Phase::Chosen(_) => CHOSEN,
+        Phase::Init(_) => INIT,
+        Phase::Auth(_) => AUTH,
+        Phase::Eap(_, _) => EAP,
+        Phase::Sure(_) => SURE,
+        Phase::Live(_) => LIVE,
+    }
 }
 
 // Does nothing; its promise is that writing and reading undo each other.

@@ -28,10 +28,12 @@ use Rattle.phase.specs.Phase.{phaseFits, phaseFrom, phaseOctets, phaseWritten}
 use Rattle.phase.proofs.Reading as Reading
 use Rattle.phase.proofs.Writes as Writes
 use Rattle.phase.proofs.Writing as Writing
+use Rattle.phase.specs.Stage.{isIn}
+use Rattle.phase.specs.Stage as Stage
 use Rattle.record.specs.Laws.{lineStorable}
 use Rattle.record.specs.Line.{Line}
 use Rattle.record.specs.Octets.{lineFrom, recordOctets}
-use Rattle.record.specs.Sound.{childrenSound, chosen, holdsSound, inRange, chosenFree, isIdle, isLive, isRecord, lineSound, lineWritten}
+use Rattle.record.specs.Sound.{childrenSound, chosen, holdsSound, inRange, chosenFree, isRecord, lineSound, lineWritten}
 use Rattle.record.proofs.Lines.{line-read}
 use Rattle.record.proofs.Sounds.{child-count, hold-count, record-line, record-lists}
 use Rattle.record.proofs.Writing.{counted, counted-length, first-count, head, head-length, held-length}
@@ -57,14 +59,14 @@ module _ (x : Line) (sound : lineSound x ≡ true) where
   unfolding childrenSound
   few-children =
       let few = leb (length (x .children)) 8 in
-      let there = isLive (x .phase) || leb (length (x .children)) 0 in
+      let there = isIn Stage.live (x .phase) || leb (length (x .children)) 0 in
       leb-true (length (x .children)) 8 (and-left few there (and-left (few && there) (spisDiffer (x .children)) (and-right (inRange (x .phase) (x .children)) (childrenSound (x .phase) (x .children)) sound-front)))
 
   pub few-holds : length (x .holds) ≤ 8
   unfolding lineSound holdsSound
   few-holds =
       let few = leb (length (x .holds)) 8 in
-      let room = isIdle (x .phase) || leb (length (x .holds)) 7 in
+      let room = isIn Stage.idle (x .phase) || leb (length (x .holds)) 7 in
       let once = different (map addressIn (x .holds)) in
       let free = chosenFree (chosen (x .phase)) (map addressIn (x .holds)) in
       let late = allOf (endsAfter (x .time)) (x .holds) in

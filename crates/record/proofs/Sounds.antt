@@ -18,20 +18,22 @@ use Rattle.children.specs.Children.{childFits, childrenWritten, spisDiffer}
 use Rattle.children.specs.declared.Child.{Child}
 use Rattle.holds.specs.Holds.{different, endsAfter, hasAddress, holdsWritten}
 use Rattle.phase.specs.Phase.{isPhase, phaseFits, phaseFrom, phaseWritten}
+use Rattle.phase.specs.Stage.{isIn}
+use Rattle.phase.specs.Stage as Stage
 use Rattle.phase.specs.declared.Phase.{Phase}
 use Rattle.record.specs.Branch.{listsSound, listsWritten}
 use Rattle.record.specs.Line.{Line}
 use Rattle.record.specs.Octets.{lineFrom}
-use Rattle.record.specs.Sound.{childrenSound, chosen, holdsSound, inRange, chosenFree, isIdle, isLive, isRecord, lineSound, lineWritten}
+use Rattle.record.specs.Sound.{childrenSound, chosen, holdsSound, inRange, chosenFree, isRecord, lineSound, lineWritten}
 
 module _ (p : Phase) (cs : List Child) (n : ℕ) (size : length cs ≡ n) (few : n ≤ 8) where
-  pub live-children : isLive p ≡ true → spisDiffer cs ≡ childrenSound p cs
+  pub live-children : isIn Stage.live p ≡ true → spisDiffer cs ≡ childrenSound p cs
   unfolding childrenSound
   live-children e =
       let within : length cs ≤ 8 = omega arith in
       sym (rw (le-leb (length cs) 8 within, e))
 
-pub other-children : (p : Phase) (cs : List Child) (n : ℕ) → length cs ≡ n → n ≤ 8 → isLive p ≡ false → eqb n 0 ≡ childrenSound p cs
+pub other-children : (p : Phase) (cs : List Child) (n : ℕ) → length cs ≡ n → n ≤ 8 → isIn Stage.live p ≡ false → eqb n 0 ≡ childrenSound p cs
 unfolding childrenSound spisDiffer distinct
 other-children p [] n size few e = eq-eqb n 0 (sym size) ∙ sym (rw e)
 other-children p (c ∷ cs) n size few e =
@@ -42,22 +44,22 @@ module _ (time : ℕ) (p : Phase) (hs : List Hold) (n : ℕ) (size : length hs �
   within : leb (length hs) 8 ≡ true
   within = le-leb (length hs) 8 (omega arith)
 
-  room-is : (t : Bool) → isIdle p || leb n 7 ≡ t → isIdle p || leb (length hs) 7 ≡ t
-  room-is t e = ap (λ (k : ℕ). isIdle p || leb k 7) size ∙ e
+  room-is : (t : Bool) → isIn Stage.idle p || leb n 7 ≡ t → isIn Stage.idle p || leb (length hs) 7 ≡ t
+  room-is t e = ap (λ (k : ℕ). isIn Stage.idle p || leb k 7) size ∙ e
 
-  pub no-room : isIdle p || leb n 7 ≡ false → false ≡ holdsSound time p hs
+  pub no-room : isIn Stage.idle p || leb n 7 ≡ false → false ≡ holdsSound time p hs
   unfolding holdsSound
   no-room e = sym (rw (within, room-is false e))
 
-  module _ (room : isIdle p || leb n 7 ≡ true) where
+  module _ (room : isIn Stage.idle p || leb n 7 ≡ true) where
     pub held-twice : different (map addressIn hs) ≡ false → false ≡ holdsSound time p hs
     unfolding holdsSound
     held-twice e = sym (rw (within, room-is true room, e))
 
     module _ (once : different (map addressIn hs) ≡ true) where
-      pub chosen-storable : chosenFree (chosen p) (map addressIn hs) ≡ false → false ≡ holdsSound time p hs
+      pub chosen-held : chosenFree (chosen p) (map addressIn hs) ≡ false → false ≡ holdsSound time p hs
       unfolding holdsSound
-      chosen-storable e = sym (rw (within, room-is true room, once, e))
+      chosen-held e = sym (rw (within, room-is true room, once, e))
 
       pub by-ends : chosenFree (chosen p) (map addressIn hs) ≡ true → allOf (endsAfter time) hs ≡ holdsSound time p hs
       unfolding holdsSound

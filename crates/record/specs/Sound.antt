@@ -14,6 +14,8 @@ use Rattle.children.specs.declared.Child.{Child}
 use Rattle.children.specs.Children.{childFits, childrenWritten, spisDiffer}
 use Rattle.holds.specs.Holds.{different, endsAfter, holdsWritten}
 use Rattle.phase.specs.Phase.{phaseFits, phaseWritten}
+use Rattle.phase.specs.Stage.{isIn}
+use Rattle.phase.specs.Stage as Stage
 use Rattle.phase.specs.declared.Phase.{Phase}
 use Rattle.phase.specs.declared.Phase.the-variants.{Idle, Country, Name, Chosen, Init, Auth, Eap, Sure, Live}
 use Rattle.record.specs.Line.{Line}
@@ -31,35 +33,13 @@ chosen (Eap a t) = some a
 chosen (Sure a) = some a
 chosen (Live a) = some a
 
-unfoldable pub isIdle : Phase → Bool
-isIdle Idle = true
-isIdle (Country f) = false
-isIdle (Name f) = false
-isIdle (Chosen a) = false
-isIdle (Init a) = false
-isIdle (Auth a) = false
-isIdle (Eap a t) = false
-isIdle (Sure a) = false
-isIdle (Live a) = false
-
-unfoldable pub isLive : Phase → Bool
-isLive Idle = false
-isLive (Country f) = false
-isLive (Name f) = false
-isLive (Chosen a) = false
-isLive (Init a) = false
-isLive (Auth a) = false
-isLive (Eap a t) = false
-isLive (Sure a) = false
-isLive (Live a) = true
-
 -- every field in its range
 unfoldable pub inRange : Phase → List Child → Bool
 inRange p cs = phaseFits p && allOf childFits cs
 
 -- at most 8 child associations, only on a live line, with different SPIs
 unfoldable pub childrenSound : Phase → List Child → Bool
-childrenSound p cs = leb (length cs) 8 && (isLive p || leb (length cs) 0) && spisDiffer cs
+childrenSound p cs = leb (length cs) 8 && (isIn Stage.live p || leb (length cs) 0) && spisDiffer cs
 
 -- none of the holds is the chosen one
 unfoldable pub chosenFree : Option Address → List Address → Bool
@@ -69,7 +49,7 @@ chosenFree (some a) held = not (stands a held)
 -- at most 8 holds, at most 7 unless the line is idle, for different addresses, none of them the chosen one, each ending after the last time
 unfoldable pub holdsSound : ℕ → Phase → List Hold → Bool
 holdsSound time p hs =
-    leb (length hs) 8 && (isIdle p || leb (length hs) 7) && different (heldAddresses hs) && chosenFree (chosen p) (heldAddresses hs)
+    leb (length hs) 8 && (isIn Stage.idle p || leb (length hs) 7) && different (heldAddresses hs) && chosenFree (chosen p) (heldAddresses hs)
     && allOf (endsAfter time) hs
 
 unfoldable pub lineSound : Line → Bool

@@ -8,59 +8,30 @@ use children::Child;
 use children::all_fit;
 use holds::all_end_after;
 use octets::number::get;
+use phase::IDLE;
+use phase::LIVE;
 use phase::Phase;
 use phase::codec::is_phase;
+use phase::number;
 ghost use mathlib.Core.Bool.{_||_};
 ghost use mathlib.Core.Path.{_≡_};
 ghost use Prim.Native.Nat.{_≤_};
 ghost use lib.Dec.{leb};
 ghost use lib.ListN.{length, take};
 ghost use Rattle.address.specs.Address.{heldAddresses};
+ghost use Rattle.phase.specs.Stage.{isIn};
+ghost use Rattle.phase.specs.Stage as Stage;
 ghost use Rattle.record.specs.Branch.{listsSound, listsWritten};
-ghost use Rattle.record.specs.Sound.{childrenSound, chosen, holdsSound, chosenFree, isIdle, isLive, isRecord};
-
-// Whether a line is idle.
-fn is_idle(phase: Phase) -> bool
-    ensures { λ r. ⌜ r ≡ isIdle phase ⌝ }
-{
-    match phase {
-        Phase::Idle => true,
-        Phase::Country(_) => false,
-        Phase::Name(_) => false,
-        Phase::Chosen(_) => false,
-        Phase::Init(_) => false,
-        Phase::Auth(_) => false,
-        Phase::Eap(_, _) => false,
-        Phase::Sure(_) => false,
-        Phase::Live(_) => false,
-    }
-}
+ghost use Rattle.record.specs.Sound.{childrenSound, chosen, holdsSound, chosenFree, isRecord};
 
 // Whether a line in a phase may have n holds of eight.
 fn has_room(phase: Phase, n: usize) -> bool
-    ensures { λ r. ⌜ r ≡ isIdle phase || leb n 7 ⌝ }
+    ensures { λ r. ⌜ r ≡ isIn Stage.idle phase || leb n 7 ⌝ }
 {
-    if is_idle(phase) {
+    if number(phase) == IDLE {
         return true;
     }
     n <= 7
-}
-
-// Whether a line is live.
-fn is_live(phase: Phase) -> bool
-    ensures { λ r. ⌜ r ≡ isLive phase ⌝ }
-{
-    match phase {
-        Phase::Live(_) => true,
-        Phase::Idle => false,
-        Phase::Country(_) => false,
-        Phase::Name(_) => false,
-        Phase::Chosen(_) => false,
-        Phase::Init(_) => false,
-        Phase::Auth(_) => false,
-        Phase::Eap(_, _) => false,
-        Phase::Sure(_) => false,
-    }
 }
 
 // Whether none of the first n holds is the chosen address.
@@ -86,7 +57,7 @@ fn are_children(phase: Phase, list: [Child; CHILDREN], n: usize) -> bool
     requires { ⌜ n ≤ 8 ⌝ }
     ensures { λ r. ⌜ r ≡ childrenSound phase (take n list) ⌝ }
 {
-    if is_live(phase) {
+    if number(phase) == LIVE {
         return children::are_different(list, n);
     }
     n == 0

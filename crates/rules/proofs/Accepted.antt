@@ -24,10 +24,11 @@ use Rattle.children.specs.Children.{spisDiffer}
 use Rattle.holds.specs.Holds.{different}
 use Rattle.phase.specs.Laws.{phaseStorable}
 use Rattle.phase.specs.Phase.{phaseFits}
+use Rattle.phase.specs.Stage.{isIn}
 use Rattle.record.specs.Laws.{lineStorable}
 use Rattle.record.specs.Line.{Line}
 use Rattle.record.specs.Octets.{lineFrom}
-use Rattle.record.specs.Sound.{childrenSound, chosen, holdsSound, inRange, chosenFree, isIdle, isLive, isRecord, lineSound, lineWritten}
+use Rattle.record.specs.Sound.{childrenSound, chosen, holdsSound, inRange, chosenFree, isRecord, lineSound, lineWritten}
 use Rattle.record.proofs.RoundTrip as RoundTrip
 use Rattle.table.specs.Laws.{mayStand, slotFits}
 use Rattle.table.specs.Slots.{Slot, Used, isOf, isOpen, lineAt, pairIn, slotAt, slotsOf}
@@ -46,7 +47,7 @@ use Rattle.rules.proofs.Keeps.{keeps-line}
 
 -- a line just opened is sound and fits its octets
 fresh-sound : lineSound fresh ≡ true
-unfolding fresh lineSound inRange phaseFits allOf childrenSound isLive spisDiffer distinct holdsSound isIdle different chosenFree chosen
+unfolding fresh lineSound inRange phaseFits allOf childrenSound isIn spisDiffer distinct holdsSound different chosenFree chosen
 fresh-sound = refl
 
 fresh-storable : lineStorable fresh ≡ true

@@ -16,14 +16,14 @@ use Rattle.children.specs.Laws.{childStorable}
 use Rattle.children.specs.declared.Child.{Child}
 use Rattle.phase.specs.Laws.{phaseStorable}
 use Rattle.phase.specs.Phase.{phaseFits}
+use Rattle.phase.specs.Stage.{isIn}
+use Rattle.phase.specs.Stage as Stage
 use Rattle.phase.specs.declared.Phase.{Phase}
 use Rattle.phase.specs.declared.Phase.the-variants.{Idle}
 use Rattle.record.specs.Line.{Line}
-use Rattle.record.specs.Sound.{chosen, chosenFree, isIdle, isLive}
+use Rattle.record.specs.Sound.{chosen, chosenFree}
 use Rattle.rules.specs.Life.{inPhase, isOther, withChildren}
-use Rattle.rules.specs.Phases.{isIn}
 use Rattle.rules.specs.Refusals.{badChild}
-use Rattle.rules.proofs.Phases.{live-is}
 use Rattle.rules.proofs.Valid.{ChildrenValid, Valid}
 
 -- the test of equal SPIs goes both ways
@@ -53,7 +53,7 @@ module _ (spi session : ℕ) (good : badChild spi session ≡ false) where
 
   -- one child more on a live line
   module _ (p : Phase) (cs : List Child) (c : ChildrenValid p cs) where
-    one-more : isLive p ≡ true → hasSpi spi cs ≡ false → leb 8 (length cs) ≡ false → ChildrenValid p (cs ++ child ∷ [])
+    one-more : isIn Stage.live p ≡ true → hasSpi spi cs ≡ false → leb 8 (length cs) ≡ false → ChildrenValid p (cs ++ child ∷ [])
     unfolding hasSpi spisDiffer sameSpi
     one-more on new room = record {
       fit = all-last childFits cs child (c .fit) child-fits;
@@ -64,7 +64,7 @@ module _ (spi session : ℕ) (good : badChild spi session ≡ false) where
     }
 
 -- one child less
-one-less : (spi : ℕ) (p : Phase) (cs : List Child) → ChildrenValid p cs → isLive p ≡ true → ChildrenValid p (only (isOther spi) cs)
+one-less : (spi : ℕ) (p : Phase) (cs : List Child) → ChildrenValid p cs → isIn Stage.live p ≡ true → ChildrenValid p (only (isOther spi) cs)
 unfolding spisDiffer
 one-less spi p cs c on =
     let q = isOther spi in
@@ -82,18 +82,18 @@ module _ (x : Line) (v : Valid x) where
   unfolding withChildren
   with-children cs c = record { small = v .small; phase-valid = v .phase-valid; children-valid = c; holds-valid = v .holds-valid }
 
-  pub child-made-valid : (spi session : ℕ) → badChild spi session ≡ false → isIn "live" (x .phase) ≡ true → hasSpi spi (x .children) ≡ false
+  pub child-made-valid : (spi session : ℕ) → badChild spi session ≡ false → isIn Stage.live (x .phase) ≡ true → hasSpi spi (x .children) ≡ false
       → leb 8 (length (x .children)) ≡ false → Valid (withChildren x (x .children ++ record { spi = spi; session = session } ∷ []))
   child-made-valid spi session good on new room =
       with-children (x .children ++ record { spi = spi; session = session } ∷ [])
-      (one-more spi session good (x .phase) (x .children) (v .children-valid) (sym (live-is (x .phase)) ∙ on) new room)
+      (one-more spi session good (x .phase) (x .children) (v .children-valid) on new room)
 
-  pub child-deleted-valid : (spi : ℕ) → isIn "live" (x .phase) ≡ true → Valid (withChildren x (only (isOther spi) (x .children)))
-  child-deleted-valid spi on = with-children (only (isOther spi) (x .children)) (one-less spi (x .phase) (x .children) (v .children-valid) (sym (live-is (x .phase)) ∙ on))
+  pub child-deleted-valid : (spi : ℕ) → isIn Stage.live (x .phase) ≡ true → Valid (withChildren x (only (isOther spi) (x .children)))
+  child-deleted-valid spi on = with-children (only (isOther spi) (x .children)) (one-less spi (x .phase) (x .children) (v .children-valid) on)
 
   -- the line goes with all its children
   pub deleted-valid : Valid (withChildren (inPhase x Idle) [])
-  unfolding withChildren inPhase phaseFits phaseStorable childFits allOf isIdle chosenFree chosen isLive spisDiffer distinct
+  unfolding withChildren inPhase phaseFits phaseStorable childFits allOf isIn chosenFree chosen spisDiffer distinct
   deleted-valid =
       let h = v .holds-valid in
       record {

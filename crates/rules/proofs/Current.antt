@@ -15,9 +15,11 @@ use Rattle.address.specs.declared.Address.{Address}
 use Rattle.address.specs.declared.Hold.{Hold}
 use Rattle.holds.specs.Holds.{different, endsAfter}
 use Rattle.holds.specs.Laws.{holdStorable}
+use Rattle.phase.specs.Stage.{isIn}
+use Rattle.phase.specs.Stage as Stage
 use Rattle.phase.specs.declared.Phase.{Phase}
 use Rattle.record.specs.Line.{Line}
-use Rattle.record.specs.Sound.{chosen, chosenFree, isIdle}
+use Rattle.record.specs.Sound.{chosen, chosenFree}
 use Rattle.rules.specs.Life.{current}
 use Rattle.octets.proofs.Search.{or-second, smaller}
 use Rattle.octets.proofs.Sublists.{any-map, distinct-map, only-all, only-distinct, only-length, only-none, only-passes}
@@ -46,7 +48,7 @@ module _ (time : ℕ) where
       let less = only-length q hs in
       record {
         few = smaller (length (only q hs)) (length hs) 8 less (h .few);
-        room = or-second (isIdle p) (leb (length hs) 7) (leb (length (only q hs)) 7) (smaller (length (only q hs)) (length hs) 7 less) (h .room);
+        room = or-second (isIn Stage.idle p) (leb (length hs) 7) (leb (length (only q hs)) 7) (smaller (length (only q hs)) (length hs) 7 less) (h .room);
         differ = left-different q hs (h .differ);
         free = left-free q hs (chosen p) (h .free);
         late = only-passes q hs;

@@ -24,15 +24,17 @@ use Rattle.eap.specs.declared.Packet.{Packet}
 use Rattle.eap.specs.declared.Packet.the-variants.{Start, NasRequest, Success, NasResponse, Stop, Other}
 use Rattle.phase.specs.Laws.{phaseStorable, turnStorable}
 use Rattle.phase.specs.Phase.{phaseFits}
+use Rattle.phase.specs.Stage.{isIn}
+use Rattle.phase.specs.Stage as Stage
 use Rattle.phase.specs.declared.Phase.{Phase}
 use Rattle.phase.specs.declared.Phase.the-variants.{Eap, Sure, Live}
 use Rattle.phase.specs.declared.Turn.{Turn}
 use Rattle.phase.specs.declared.Turn.the-variants.{First, Owed, Answered}
 use Rattle.record.specs.Line.{Line}
-use Rattle.record.specs.Sound.{chosen, isLive}
+use Rattle.record.specs.Sound.{chosen}
 use Rattle.text.specs.Text.{text}
 use Rattle.rules.specs.Life.{goes, keeps, packetTaken, replied}
-use Rattle.rules.specs.Phases.{isIn, lastReply, owed, turnIn, word}
+use Rattle.rules.specs.Phases.{lastReply, owed, turnIn}
 use Rattle.rules.specs.Refusals.{isDue, isNumber}
 use Rattle.rules.proofs.Moves.{Carries, goes-on, rests, sure-carries}
 use Rattle.rules.proofs.Phases.{identifier-storable, not-live}
@@ -76,7 +78,7 @@ eap-carries t h = record { fits = λ a. refl; storable = λ a k. and-true (addre
 
 -- no packet is due on a live line
 live-due : (q : Packet) (a : Address) → isDue q (Live a) ≡ false
-unfolding isDue isSome isNumber lastReply turnIn isIn word text same
+unfolding isDue isSome isNumber lastReply turnIn isIn
 live-due (Start i) a = refl
 live-due (NasRequest i at n) a = refl
 live-due (Success i) a = refl
@@ -85,10 +87,10 @@ live-due (Stop i) a = refl
 live-due Other a = refl
 
 -- a line on which a packet is due isn't live
-pub due-calm : (q : Packet) (p : Phase) → isDue q p ≡ true → isLive p ≡ false
+pub due-calm : (q : Packet) (p : Phase) → isDue q p ≡ true → isIn Stage.live p ≡ false
 due-calm q p e = not-live (isDue q) (live-due q) p e
 
-module _ (x : Line) (v : Valid x) (calm : isLive (x .phase) ≡ false) where
+module _ (x : Line) (v : Valid x) (calm : isIn Stage.live (x .phase) ≡ false) where
   -- Start, a NAS request and Success keep the chosen address
   pub taken-valid : (packet : List ℕ) (q : Packet) → packetStorable q ≡ true → Valid (packetTaken x packet q .line)
   unfolding packetTaken keeps goes packetStorable turnStorable

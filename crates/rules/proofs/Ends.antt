@@ -21,9 +21,11 @@ use Rattle.holds.specs.Holds.{different, endAfter, endsAfter}
 use Rattle.holds.specs.Laws.{endStorable, holdStorable}
 use Rattle.phase.specs.Laws.{phaseStorable}
 use Rattle.phase.specs.Phase.{phaseFits}
+use Rattle.phase.specs.Stage.{isIn}
+use Rattle.phase.specs.Stage as Stage
 use Rattle.phase.specs.declared.Phase.the-variants.{Idle}
 use Rattle.record.specs.Line.{Line}
-use Rattle.record.specs.Sound.{chosen, chosenFree, isIdle, isLive}
+use Rattle.record.specs.Sound.{chosen, chosenFree}
 use Rattle.timer.specs.Timer.{timerOf, unitSeconds}
 use Rattle.timer.specs.declared.Timer.{Timer}
 use Rattle.timer.specs.declared.Timer.the-variants as Timer
@@ -68,7 +70,7 @@ module _ (time n : ℕ) (small : ltb time (256 ^ 4) ≡ true) (fits : ltb 0 n &&
       let early : time < 256 ^ 4 = ltb-true time (256 ^ 4) small in
       and-true (ltb 0 (time + n)) (ltb (time + n) (256 ^ 5)) (lt-ltb 0 (time + n) (omega (arith, some-seconds))) (lt-ltb (time + n) (256 ^ 5) (omega arith))
 
-module _ (x : Line) (v : Valid x) (calm : isLive (x .phase) ≡ false) (busy : isIdle (x .phase) ≡ false) where
+module _ (x : Line) (v : Valid x) (calm : isIn Stage.live (x .phase) ≡ false) (busy : isIn Stage.idle (x .phase) ≡ false) where
   -- the holds as they were
   same-holds : HoldsValid (x .time) Idle (x .holds ++ [])
   unfolding inPhase
@@ -90,7 +92,7 @@ module _ (x : Line) (v : Valid x) (calm : isLive (x .phase) ≡ false) (busy : i
         (sym (any-map addressIn (sameAddress (h .address)) (x .holds)) ∙ own-free) (sym (distinct-map addressIn sameAddress (x .holds)) ∙ v .holds-valid .differ)
 
     one-hold : endsAfter (x .time) h ≡ true → holdStorable h ≡ true → HoldsValid (x .time) Idle (x .holds ++ h ∷ [])
-    unfolding isIdle chosenFree chosen
+    unfolding isIn chosenFree chosen
     one-hold late storable =
         let o = v .holds-valid in
         record {

@@ -1,6 +1,5 @@
 -- Every accepted event keeps a line sound.
 use Prim.Native.Nat.{ℕ}
-use Prim.Native.String.{String}
 use mathlib.Core.Bool.{Bool, true, false, not, _&&_}
 use mathlib.Core.List.{List, [], _∷_}
 use mathlib.Core.Path.{_≡_, refl}
@@ -9,7 +8,6 @@ use lib.Dec.{ltb, eqb}
 use lib.ListN.{length}
 use borrow.Author.Tests.{le-leb, leb-false, ltb-false, not-false}
 use Rattle.octets.specs.Laws.{below}
-use Rattle.octets.specs.Part.{same}
 use Rattle.octets.specs.Refusal.{Refusal, _when_, refusal}
 use Rattle.octets.specs.Search.{allOf}
 use Rattle.octets.proofs.Refusals.{refusal-step}
@@ -19,16 +17,17 @@ use Rattle.children.specs.Children.{hasSpi}
 use Rattle.config.specs.Settings.{configOf}
 use Rattle.eap.specs.Packet.{readPacket}
 use Rattle.lists.specs.Lists.{addressesIn, networksIn}
+use Rattle.phase.specs.Stage.{Stage, isIn, stageNumber}
+use Rattle.phase.specs.Stage as Stage
 use Rattle.phase.specs.declared.Phase.{Phase}
 use Rattle.phase.specs.declared.Phase.the-variants.{Init, Auth, Live}
 use Rattle.record.specs.Laws.{lineStorable}
 use Rattle.record.specs.Line.{Line}
-use Rattle.record.specs.Sound.{chosen, isIdle, isLive, lineSound}
+use Rattle.record.specs.Sound.{chosen, lineSound}
 use Rattle.selection.specs.Selection as Selection
-use Rattle.text.specs.Text.{text}
 use Rattle.rules.specs.Call.{Event, StartNumbers, start, country, address, begin, init, eap, reply, final, error, congestion, give-up, child-made, child-deleted, ike-delete, eventOctets, startNumbersFit}
 use Rattle.rules.specs.Life.{becomes, current, finished, goes, keeps, outcome}
-use Rattle.rules.specs.Phases.{factsIn, isIn, owed, turnIn, underway, word}
+use Rattle.rules.specs.Phases.{factsIn, owed, turnIn, underway}
 use Rattle.rules.specs.Refusals.{badChild, refusalsOf, unless}
 use Rattle.rules.proofs.Children.{child-deleted-valid, child-made-valid, deleted-valid}
 use Rattle.rules.proofs.Current.{current-valid}
@@ -42,23 +41,23 @@ use Rattle.rules.proofs.Valid.{Valid, held-of, sound-of, valid-of}
 
 -- a phase that passes a test of the rules isn't live
 module _ (p : Phase) where
-  calm-word : (w : String) → same (text w) (text "live") ≡ false → isIn w p ≡ true → isLive p ≡ false
-  unfolding isIn word
-  calm-word w other e = not-live (isIn w) (λ a. other) p e
+  calm-in : (s : Stage) → eqb (stageNumber Stage.live) (stageNumber s) ≡ false → isIn s p ≡ true → isIn Stage.live p ≡ false
+  unfolding isIn
+  calm-in s other e = not-live (isIn s) (λ a. other) p e
 
-  calm-underway : underway p ≡ true → isLive p ≡ false
-  unfolding underway isIn word text same
+  calm-underway : underway p ≡ true → isIn Stage.live p ≡ false
+  unfolding underway isIn
   calm-underway e = not-live underway (λ a. refl) p e
 
-  busy-underway : underway p ≡ true → isIdle p ≡ false
-  unfolding underway isIn word text same
+  busy-underway : underway p ≡ true → isIn Stage.idle p ≡ false
+  unfolding underway isIn
   busy-underway e = not-idle underway refl p e
 
-  calm-between : not (isIn "idle" p) && not (isIn "live" p) ≡ true → isLive p ≡ false
-  unfolding isIn word text same
-  calm-between e = not-live (λ q. not (isIn "idle" q) && not (isIn "live" q)) (λ a. refl) p e
+  calm-between : not (isIn Stage.idle p) && not (isIn Stage.live p) ≡ true → isIn Stage.live p ≡ false
+  unfolding isIn
+  calm-between e = not-live (λ q. not (isIn Stage.idle q) && not (isIn Stage.live q)) (λ a. refl) p e
 
-  calm-owed : isSome (owed (turnIn p)) ≡ true → isLive p ≡ false
+  calm-owed : isSome (owed (turnIn p)) ≡ true → isIn Stage.live p ≡ false
   unfolding isSome owed turnIn
   calm-owed e = not-live (λ q. isSome (owed (turnIn q))) (λ a. refl) p e
 
@@ -94,37 +93,37 @@ module _ (out : Bool) (x : Line) where
   -- each event that isn't refused leaves a valid line
   module _ (v : Valid x) where
     keeps-start : (g : StartNumbers) (l : List ℕ) (room : ℕ) → refusal (refusalsOf (start g l room) out x) ≡ 0 → Valid (outcome (start g l room) x .line)
-    unfolding refusalsOf outcome unless text same
+    unfolding refusalsOf outcome unless
     keeps-start g l room e =
         let first = refusal-step 7 _ _ e in
         let third = refusal-step 9 _ _ (refusal-step 8 _ _ (first .1) .1) in
         let fits : not (startNumbersFit g) ≡ false = search (or-left, or-right) in
-        let calm = calm-word (x .phase) "idle" refl (allowed-then _ _ _ _ e) in
+        let calm = calm-in (x .phase) Stage.idle refl (allowed-then _ _ _ _ e) in
         let few = leb-false 8 (length (x .holds)) (refusal-step 12 _ _ (third .1) .0) in
         started-valid x v calm (le-leb (length (x .holds)) 7 (omega arith)) g (not-false (startNumbersFit g) fits) l (configOf l) (config-storable l)
 
     keeps-country : (n : ℕ) (networks l : List ℕ) (room : ℕ) → refusal (refusalsOf (country n networks l room) out x) ≡ 0
         → Valid (outcome (country n networks l room) x .line)
-    unfolding refusalsOf outcome text same
+    unfolding refusalsOf outcome
     keeps-country n networks l room e =
-        let calm = calm-word (x .phase) "country" refl (allowed-then _ _ _ [] e) in
+        let calm = calm-in (x .phase) Stage.country refl (allowed-then _ _ _ [] e) in
         answered-valid x v calm (factsIn (x .phase)) refl (Selection.countryReply (eqb n 1) (networksIn networks)) l (configOf l) (config-storable l)
 
     keeps-address : (l : List ℕ) → allOf (below 256) l ≡ true → refusal (refusalsOf (address l) out x) ≡ 0 → Valid (outcome (address l) x .line)
-    unfolding refusalsOf outcome text same
+    unfolding refusalsOf outcome
     keeps-address l octets e =
-        let calm = calm-word (x .phase) "name" refl (allowed-by _ _ [] e) in
+        let calm = calm-in (x .phase) Stage.name refl (allowed-by _ _ [] e) in
         addressed-valid x v calm (factsIn (x .phase)) refl (addressesIn l) (addresses-storable l octets)
 
     keeps-begin : refusal (refusalsOf begin out x) ≡ 0 → Valid (outcome begin x .line)
-    unfolding refusalsOf outcome keeps goes text same
+    unfolding refusalsOf outcome keeps goes
     keeps-begin e =
-        goes-on x v (calm-word (x .phase) "chosen" refl (allowed-by _ _ [] e)) Init init-carries
+        goes-on x v (calm-in (x .phase) Stage.chosen refl (allowed-by _ _ [] e)) Init init-carries
 
     keeps-init : refusal (refusalsOf init out x) ≡ 0 → Valid (outcome init x .line)
-    unfolding refusalsOf outcome keeps goes text same
+    unfolding refusalsOf outcome keeps goes
     keeps-init e =
-        goes-on x v (calm-word (x .phase) "init" refl (allowed-by _ _ [] e)) Auth auth-carries
+        goes-on x v (calm-in (x .phase) Stage.init refl (allowed-by _ _ [] e)) Auth auth-carries
 
     keeps-eap : (packet : List ℕ) → allOf (below 256) packet ≡ true → refusal (refusalsOf (eap packet) out x) ≡ 0 → Valid (outcome (eap packet) x .line)
     unfolding refusalsOf outcome
@@ -139,15 +138,15 @@ module _ (out : Bool) (x : Line) where
         replied-valid x v (calm-owed (x .phase) (allowed-then _ _ _ [] e)) parameters nas (owed (turnIn (x .phase))) refl
 
     -- the final answer, AUTH good or bad
-    finished-valid : isLive (x .phase) ≡ false → (good : Bool) → Valid (finished x good .line)
+    finished-valid : isIn Stage.live (x .phase) ≡ false → (good : Bool) → Valid (finished x good .line)
     unfolding finished keeps goes
     finished-valid calm true = goes-on x v calm Live live-carries
     finished-valid calm false = rests x v calm
 
     keeps-final : (good : ℕ) → refusal (refusalsOf (final good) out x) ≡ 0 → Valid (outcome (final good) x .line)
-    unfolding refusalsOf outcome text same
+    unfolding refusalsOf outcome
     keeps-final good e =
-        finished-valid (calm-word (x .phase) "sure" refl (allowed-by _ _ [] e)) (eqb good 1)
+        finished-valid (calm-in (x .phase) Stage.sure refl (allowed-by _ _ [] e)) (eqb good 1)
 
     keeps-error : (number : ℕ) → refusal (refusalsOf (error number) out x) ≡ 0 → Valid (outcome (error number) x .line)
     unfolding refusalsOf outcome goes
@@ -179,7 +178,7 @@ module _ (out : Bool) (x : Line) where
     keeps-child-deleted : (spi : ℕ) → refusal (refusalsOf (child-deleted spi) out x) ≡ 0 → Valid (outcome (child-deleted spi) x .line)
     unfolding refusalsOf outcome becomes
     keeps-child-deleted spi e =
-        child-deleted-valid x v spi (and-left (isIn "live" (x .phase)) (hasSpi spi (x .children)) (allowed-by _ _ [] e))
+        child-deleted-valid x v spi (and-left (isIn Stage.live (x .phase)) (hasSpi spi (x .children)) (allowed-by _ _ [] e))
 
     keeps-ike-delete : Valid (outcome ike-delete x .line)
     unfolding outcome becomes

@@ -4,7 +4,6 @@ use mathlib.Core.Bool.{Bool, true, false, false≢true}
 use mathlib.Core.Option.{some}
 use mathlib.Core.Path.{_≡_, refl, sym, ap, _∙_}
 use lib.Dec.{ltb}
-use Rattle.octets.specs.Part.{same}
 use Rattle.octets.proofs.Search.{and-left, and-right}
 use Rattle.octets.specs.Row.{isSome}
 use Rattle.address.specs.declared.Address.{Address}
@@ -12,18 +11,19 @@ use Rattle.addresses.specs.Laws.{addressStorable}
 use Rattle.phase.specs.Facts.{factsFit}
 use Rattle.phase.specs.Laws.{phaseStorable, turnStorable}
 use Rattle.phase.specs.Phase.{isAbroad, phaseFits}
+use Rattle.phase.specs.Stage.{isIn}
+use Rattle.phase.specs.Stage as Stage
 use Rattle.phase.specs.declared.Phase.{Phase}
 use Rattle.phase.specs.declared.Phase.the-variants.{Idle, Country, Name, Chosen, Init, Auth, Eap, Sure, Live}
 use Rattle.phase.specs.declared.Turn.{Turn}
 use Rattle.phase.specs.declared.Turn.the-variants.{First, Owed, Answered}
 use Rattle.place.specs.declared.Facts.{Facts}
-use Rattle.record.specs.Sound.{chosen, isIdle, isLive}
-use Rattle.text.specs.Text.{text}
-use Rattle.rules.specs.Phases.{factsIn, isIn, owed, turnIn, word}
+use Rattle.record.specs.Sound.{chosen}
+use Rattle.rules.specs.Phases.{factsIn, owed, turnIn}
 
 -- a phase that passes a test which no live line passes
-pub not-live : (t : Phase → Bool) → ((a : Address) → t (Live a) ≡ false) → (p : Phase) → t p ≡ true → isLive p ≡ false
-unfolding isLive
+pub not-live : (t : Phase → Bool) → ((a : Address) → t (Live a) ≡ false) → (p : Phase) → t p ≡ true → isIn Stage.live p ≡ false
+unfolding isIn
 not-live t h Idle e = refl
 not-live t h (Country f) e = refl
 not-live t h (Name f) e = refl
@@ -35,8 +35,8 @@ not-live t h (Sure a) e = refl
 not-live t h (Live a) e = absurd (false≢true (sym (h a) ∙ e))
 
 -- a phase that passes a test which no idle line passes
-pub not-idle : (t : Phase → Bool) → t Idle ≡ false → (p : Phase) → t p ≡ true → isIdle p ≡ false
-unfolding isIdle
+pub not-idle : (t : Phase → Bool) → t Idle ≡ false → (p : Phase) → t p ≡ true → isIn Stage.idle p ≡ false
+unfolding isIn
 not-idle t h Idle e = absurd (false≢true (sym h ∙ e))
 not-idle t h (Country f) e = refl
 not-idle t h (Name f) e = refl
@@ -47,23 +47,10 @@ not-idle t h (Eap a i) e = refl
 not-idle t h (Sure a) e = refl
 not-idle t h (Live a) e = refl
 
--- the two ways to say that a line is live
-pub live-is : (p : Phase) → isIn "live" p ≡ isLive p
-unfolding isIn word text same isLive
-live-is Idle = refl
-live-is (Country f) = refl
-live-is (Name f) = refl
-live-is (Chosen a) = refl
-live-is (Init a) = refl
-live-is (Auth a) = refl
-live-is (Eap a t) = refl
-live-is (Sure a) = refl
-live-is (Live a) = refl
-
 -- the chosen address of a phase
 module _ (p : Phase) (a : Address) (e : chosen p ≡ some a) where
   -- only a line that isn't idle has one
-  pub chosen-busy : isIdle p ≡ false
+  pub chosen-busy : isIn Stage.idle p ≡ false
   unfolding chosen isSome
   chosen-busy = not-idle (λ q. isSome (chosen q)) refl p (ap isSome e)
 
@@ -81,7 +68,7 @@ chosen-storable (Sure b) a e h = cc
 chosen-storable (Live b) a e h = cc
 
 -- only a line that isn't idle keeps place facts
-pub facts-busy : (p : Phase) (f : Facts) → factsIn p ≡ some f → isIdle p ≡ false
+pub facts-busy : (p : Phase) (f : Facts) → factsIn p ≡ some f → isIn Stage.idle p ≡ false
 unfolding factsIn isSome
 facts-busy p f e = not-idle (λ q. isSome (factsIn q)) refl p (ap isSome e)
 

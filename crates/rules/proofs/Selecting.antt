@@ -27,13 +27,15 @@ use Rattle.network.specs.declared.Plmn.{Plmn}
 use Rattle.phase.specs.Facts.{factsFit, placeFits, registeredFits}
 use Rattle.phase.specs.Laws.{phaseStorable}
 use Rattle.phase.specs.Phase.{isAbroad, phaseFits}
+use Rattle.phase.specs.Stage.{isIn}
+use Rattle.phase.specs.Stage as Stage
 use Rattle.phase.specs.declared.Phase.the-variants.{Country, Name, Chosen}
 use Rattle.place.specs.declared.Facts.{Facts}
 use Rattle.place.specs.declared.Place.{Place}
 use Rattle.place.specs.declared.Place.the-variants.{Unknown, Home, Abroad}
 use Rattle.preference.specs.Preference.{ranked, unranked}
 use Rattle.record.specs.Line.{Line}
-use Rattle.record.specs.Sound.{chosen, chosenFree, isIdle, isLive}
+use Rattle.record.specs.Sound.{chosen, chosenFree}
 use Rattle.selection.specs.Selection as Selection
 use Rattle.selection.specs.declared.Choice.{Choice}
 use Rattle.selection.specs.declared.Choice.the-variants as Choice
@@ -136,7 +138,7 @@ module _ (f : Facts) (r : Ranged f) (s : Settings) (node : nodeStorable (s .node
   start-allowed = start-at (Selection.registered s f) (f .place) refl (r .place-known)
 
 -- a line that isn't live
-module _ (x : Line) (v : Valid x) (calm : isLive (x .phase) ≡ false) where
+module _ (x : Line) (v : Valid x) (calm : isIn Stage.live (x .phase) ≡ false) where
   -- with room for one hold more
   module _ (room : leb (length (x .holds)) 7 ≡ true) where
     -- S5: what is chosen is permitted
@@ -145,7 +147,7 @@ module _ (x : Line) (v : Valid x) (calm : isLive (x .phase) ≡ false) where
       p = permitted version (heldAddresses (x .holds))
 
       permitted-valid : (a : Address) → addressStorable a ≡ true → p a ≡ true → Valid (inPhase x (Chosen a))
-      unfolding permitted phaseFits phaseStorable isIdle chosenFree chosen
+      unfolding permitted phaseFits phaseStorable isIn chosenFree chosen
       permitted-valid a h e =
           moves x v calm (Chosen a) (record { fits = refl; storable = h }) room (and-right (eqb (versionOf a) version) (not (stands a (heldAddresses (x .holds)))) e)
 
@@ -166,7 +168,7 @@ module _ (x : Line) (v : Valid x) (calm : isLive (x .phase) ≡ false) where
 
     -- S1 to S4
     decided-valid : (f : Facts) (text : List ℕ) (c : Choice) → allowed f c ≡ true → Valid (decided x f text c .line)
-    unfolding decided goes nameAsked allowed phaseFits phaseStorable isIdle chosenFree chosen allOf
+    unfolding decided goes nameAsked allowed phaseFits phaseStorable isIn chosenFree chosen allOf
     decided-valid f text (Choice.Stop n) h = rests x v calm
     decided-valid f text (Choice.Country mcc) h = moves x v calm (Country f) (record { fits = h; storable = refl }) room refl
     decided-valid f text (Choice.Text at n) h = moves x v calm (Name f) (record { fits = h; storable = refl }) room refl

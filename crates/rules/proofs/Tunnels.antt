@@ -25,21 +25,21 @@ use Rattle.gateway.specs.declared.Found.{Found}
 use Rattle.gateway.specs.declared.Found.the-variants as Found
 use Rattle.lists.specs.Lists.{addressesIn, networksIn}
 use Rattle.network.specs.declared.Plmn.{Plmn}
+use Rattle.phase.specs.Stage.{isIn}
+use Rattle.phase.specs.Stage as Stage
 use Rattle.phase.specs.declared.Phase.the-variants.{Country, Chosen}
 use Rattle.place.specs.declared.Facts.{Facts}
 use Rattle.record.specs.Line.{Line}
-use Rattle.record.specs.Sound.{isLive}
 use Rattle.selection.specs.Selection as Selection
 use Rattle.selection.specs.declared.Choice.{Choice}
 use Rattle.selection.specs.declared.Choice.the-variants as Choice
 use Rattle.rules.specs.Call.{Event, start, country, address, begin, init, eap, reply, final, error, congestion, give-up, child-made, child-deleted, ike-delete, timed, factsOf, pairOf}
 use Rattle.rules.specs.Claims.{Good, Timed, childrenAfter, lineIn}
 use Rattle.rules.specs.Life.{addressAnswered, countryAnswered, nameAsked, becomes, congested, current, decided, finished, gatewayFound, goes, inPhase, isOther, keeps, outcome, packetTaken, replied, started, withChildren}
-use Rattle.rules.specs.Phases.{factsIn, isIn, owed, turnIn}
+use Rattle.rules.specs.Phases.{factsIn, owed, turnIn}
 use Rattle.rules.specs.Refusals.{badChild, refusalsOf, unless}
 use Rattle.rules.specs.Run.{run}
 use Rattle.rules.proofs.Accepted.{found-storable, found-sound}
-use Rattle.rules.proofs.Phases.{live-is}
 use Rattle.rules.proofs.Timed.{no-ground, timed-run}
 use Rattle.rules.proofs.Valid.{Valid, valid-of}
 
@@ -54,10 +54,10 @@ line-valid tenant line l x good e =
     let p = pairOf tenant line in
     valid-of x (found-sound l good p (omega arith) x e) (found-storable l good p (omega arith) x e)
 
-pub tunnels-live : (tenant line : ℕ) (l : List ℕ) (x : Line) → Good l → lineIn l tenant line ≡ some x → isIn "live" (x .phase) ≡ false → x .children ≡ []
+pub tunnels-live : (tenant line : ℕ) (l : List ℕ) (x : Line) → Good l → lineIn l tenant line ≡ some x → isIn Stage.live (x .phase) ≡ false → x .children ≡ []
 tunnels-live tenant line l x good e h =
     let few = leb (length (x .children)) 0 in
-    none-left (x .children) (leb-true (length (x .children)) 0 (or-other (isLive (x .phase)) few (line-valid tenant line l x good e .children-valid .on-live) (sym (live-is (x .phase)) ∙ h)))
+    none-left (x .children) (leb-true (length (x .children)) 0 (or-other (isIn Stage.live (x .phase)) few (line-valid tenant line l x good e .children-valid .on-live) h))
 
 module _ (x : Line) where
   found-children : (f : Found) → gatewayFound x f .line .children ≡ x .children
@@ -148,7 +148,7 @@ one-less spi (c ∷ cs) differ there =
 
 module _ (tenant line time spi : ℕ) (l : List ℕ) (x : Line) where
   pub tunnels-made : (session : ℕ) → Timed tenant line time (child-made spi session) l x
-      → (isIn "live" (x .phase) ≡ true)
+      → (isIn Stage.live (x .phase) ≡ true)
       × (lineIn (run (timed tenant line time (child-made spi session)) l .table) tenant line
       ≡ some (withChildren (current time x) (x .children ++ record { spi = spi; session = session } ∷ [])))
   unfolding refusalsOf unless outcome becomes current
@@ -156,7 +156,7 @@ module _ (tenant line time spi : ℕ) (l : List ℕ) (x : Line) where
       let e = child-made spi session in
       let y = current time x in
       let standing = (11 when hasSpi spi (y .children)) ∷ (12 when leb 8 (length (y .children))) ∷ [] in
-      let live = isIn "live" (x .phase) in
+      let live = isIn Stage.live (x .phase) in
       let range = ltb 4294967295 time || badChild spi session in (
         not-false live (refusal-step 9 (not live) standing (refusal-step 7 range ((10 when not live) ∷ standing) (no-ground tenant line time e l x t) .1) .0),
         timed-run tenant line time e l x t .1,
@@ -168,7 +168,7 @@ module _ (tenant line time spi : ℕ) (l : List ℕ) (x : Line) where
   unfolding refusalsOf unless outcome becomes current
   tunnels-deleted t =
       let e = child-deleted spi in
-      let live = isIn "live" (x .phase) in
+      let live = isIn Stage.live (x .phase) in
       let both = live && hasSpi spi (x .children) in
       let there : both ≡ true = not-false both (refusal-step 9 (not both) [] (refusal-step 7 (ltb 4294967295 time) ((10 when not both) ∷ []) (no-ground tenant line time e l x t) .1) .0) in (
         timed-run tenant line time e l x t .1,

@@ -16,10 +16,12 @@ use Rattle.holds.specs.Holds.{different, endsAfter}
 use Rattle.holds.specs.Laws.{holdStorable}
 use Rattle.phase.specs.Laws.{phaseStorable}
 use Rattle.phase.specs.Phase.{phaseFits}
+use Rattle.phase.specs.Stage.{isIn}
+use Rattle.phase.specs.Stage as Stage
 use Rattle.phase.specs.declared.Phase.{Phase}
 use Rattle.record.specs.Laws.{lineStorable}
 use Rattle.record.specs.Line.{Line}
-use Rattle.record.specs.Sound.{childrenSound, chosen, holdsSound, inRange, chosenFree, isIdle, isLive, lineSound}
+use Rattle.record.specs.Sound.{childrenSound, chosen, holdsSound, inRange, chosenFree, lineSound}
 
 -- the data of a phase are in their ranges and fit their octets
 pub record PhaseValid (p : Phase) : Type 0 where
@@ -31,13 +33,13 @@ pub record ChildrenValid (p : Phase) (cs : List Child) : Type 0 where
   pub fit : allOf childFits cs ≡ true
   pub storable : allOf childStorable cs ≡ true
   pub few : leb (length cs) 8 ≡ true
-  pub on-live : isLive p || leb (length cs) 0 ≡ true
+  pub on-live : isIn Stage.live p || leb (length cs) 0 ≡ true
   pub differ : spisDiffer cs ≡ true
 
 -- the holds of a line in a phase at its time
 pub record HoldsValid (time : ℕ) (p : Phase) (hs : List Hold) : Type 0 where
   pub few : leb (length hs) 8 ≡ true
-  pub room : isIdle p || leb (length hs) 7 ≡ true
+  pub room : isIn Stage.idle p || leb (length hs) 7 ≡ true
   pub differ : different (map addressIn hs) ≡ true
   pub free : chosenFree (chosen p) (map addressIn hs) ≡ true
   pub late : allOf (endsAfter time) hs ≡ true

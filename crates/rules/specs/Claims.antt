@@ -15,6 +15,8 @@ use Rattle.address.specs.Address.{heldAddresses}
 use Rattle.children.specs.declared.Child.{Child}
 use Rattle.config.specs.Settings.{Settings, configOf}
 use Rattle.lists.specs.Lists.{addressesIn, networksIn}
+use Rattle.phase.specs.Stage.{isIn}
+use Rattle.phase.specs.Stage as Stage
 use Rattle.place.specs.declared.Facts.{Facts}
 use Rattle.record.specs.Line.{Line}
 use Rattle.response.specs.Laws as Response
@@ -27,7 +29,7 @@ use Rattle.rules.specs.Call.{StartNumbers, Event, start, country, addres
 use Rattle.rules.specs.Histories.{answersTo, isOctets, remaining}
 use Rattle.rules.specs.Life.{current, isOther, outcome, withChildren}
 use Rattle.rules.specs.Listing.{listFrom}
-use Rattle.rules.specs.Phases.{factsIn, isIn}
+use Rattle.rules.specs.Phases.{factsIn}
 use Rattle.rules.specs.Run.{Result, answerOf, fresh, ownLine, run, stepOf}
 use Rattle.rules.specs.OnSlots.{runOn}
 use Rattle.rules.specs.Starred as Starred
@@ -124,11 +126,11 @@ pub record Claims : Type 0 where
       → Timed tenant line time (address list) l x → factsIn (x .phase) ≡ some f
       → Exactly (Ends s (f .version) (heldAddresses (current time x .holds)) (addresses (addressesIn list))) (stopSaid (run (timed tenant line time (address list)) l .answer))
   -- children stand only on a live line, and only a child made adds one
-  pub tunnels-live : (tenant line : ℕ) (l : List ℕ) (x : Line) → Good l → lineIn l tenant line ≡ some x → isIn "live" (x .phase) ≡ false → x .children ≡ []
+  pub tunnels-live : (tenant line : ℕ) (l : List ℕ) (x : Line) → Good l → lineIn l tenant line ≡ some x → isIn Stage.live (x .phase) ≡ false → x .children ≡ []
   pub tunnels-after : (e : Event) (x : Line) → outcome e x .line .children ≡ childrenAfter e (x .children)
   -- an accepted child made adds that one at the end of a live line and changes nothing else of the line as the call finds it
   pub tunnels-made : (tenant line time spi session : ℕ) (l : List ℕ) (x : Line) → Timed tenant line time (child-made spi session) l x
-      → (isIn "live" (x .phase) ≡ true)
+      → (isIn Stage.live (x .phase) ≡ true)
       × (lineIn (run (timed tenant line time (child-made spi session)) l .table) tenant line
       ≡ some (withChildren (current time x) (x .children ++ record { spi = spi; session = session } ∷ [])))
   -- an accepted delete takes that one, and no other

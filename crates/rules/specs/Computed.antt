@@ -29,6 +29,8 @@ use Rattle.selection.specs.Selection as Selection
 use Rattle.query.specs.Query as Query
 use Rattle.holds.specs.Holds as Holds
 use Rattle.children.specs.Children as Children
+use Rattle.phase.specs.Stage.{isIn}
+use Rattle.phase.specs.Stage as Stage
 use Rattle.record.specs.Sound as Sound
 use Rattle.table.specs.Slots as TableSlots
 use Rattle.rules.specs.Call as RulesCall
@@ -95,7 +97,7 @@ unfolding empty slotsOn
     TableSlots.pairIn TableSlots.isOf TableSlots.isOpen TableSlots.slotLine TableSlots.lineAt TableSlots.replaced
     RulesCall.tenantOf RulesCall.pairOf RulesCall.startNumbersFit RulesCall.placeOf RulesCall.registeredOf RulesCall.factsOf
     RulesAnswer.high RulesAnswer.low RulesAnswer.twelve RulesAnswer.numbersOf RulesAnswer.eventRoom RulesAnswer.refused
-    RulesPhases.word RulesPhases.isIn RulesPhases.underway RulesPhases.factsIn RulesPhases.turnIn RulesPhases.isFirst RulesPhases.owed
+    Stage.isIn RulesPhases.underway RulesPhases.factsIn RulesPhases.turnIn RulesPhases.isFirst RulesPhases.owed
     RulesPhases.lastReply
     RulesRefusals.isLong RulesRefusals.isMalformed RulesRefusals.isHomeAbroad RulesRefusals.waitsHomeAbroad
     RulesRefusals.badNetworks RulesRefusals.badReply RulesRefusals.badChild RulesRefusals.isTakenApart RulesRefusals.isNumber
@@ -104,7 +106,7 @@ unfolding empty slotsOn
     RulesLife.decided RulesLife.started RulesLife.countryAnswered RulesLife.addressAnswered RulesLife.packetTaken RulesLife.replied RulesLife.finished
     RulesLife.ended RulesLife.timerHold RulesLife.chosenHold RulesLife.congested RulesLife.withChildren RulesLife.isOther RulesLife.becomes
     RulesLife.outcome
-    RulesListing.tab RulesListing.newline RulesListing.addressText RulesListing.childText RulesListing.lineText RulesListing.listFrom
+    RulesListing.tab RulesListing.newline RulesListing.word RulesListing.addressText RulesListing.childText RulesListing.lineText RulesListing.listFrom
     RulesRun.ownLine RulesRun.viewOf RulesRun.fresh RulesRun.lineOr RulesRun.isNoPair RulesRun.bare RulesRun.isShort RulesRun.answerOf
     RulesRun.timedStep RulesRun.step
     RulesOnSlots.appliedOn RulesOnSlots.settledOn RulesOnSlots.runOn RulesOnSlots.answersOn

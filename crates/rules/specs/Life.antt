@@ -21,6 +21,8 @@ use Rattle.gateway.specs.declared.Found.the-variants as Found
 use Rattle.holds.specs.Holds.{endsAfter}
 use Rattle.network.specs.declared.Plmn.{Plmn}
 use Rattle.lists.specs.Lists.{addressesIn, networksIn}
+use Rattle.phase.specs.Stage.{isIn}
+use Rattle.phase.specs.Stage as Stage
 use Rattle.phase.specs.declared.Phase.{Phase}
 use Rattle.phase.specs.declared.Phase.the-variants.{Idle, Country, Name, Chosen, Init, Auth, Eap, Sure, Live}
 use Rattle.phase.specs.declared.Turn.the-variants.{First, Owed, Answered}
@@ -37,7 +39,7 @@ use Rattle.timer.specs.declared.Timer.{Timer}
 use Rattle.timer.specs.declared.Timer.the-variants as Timer
 use Rattle.rules.specs.Answer.{Action, nothing, stopped, ask-country, ask-text, ask-built, chose, send-init, send-auth-request, ask-nas, hand-up, send-response, send-auth, live, released, error-up}
 use Rattle.rules.specs.Call.{Event, start, country, address, begin, init, eap, reply, final, error, congestion, give-up, child-made, child-deleted, ike-delete, factsOf}
-use Rattle.rules.specs.Phases.{factsIn, isIn, owed, turnIn}
+use Rattle.rules.specs.Phases.{factsIn, owed, turnIn}
 
 -- a line's ended holds are dropped at each accepted timed call on it, and its time is stored
 unfoldable pub current : ℕ → Line → Line
@@ -140,7 +142,7 @@ finished x false = goes x Idle (released 0)
 
 -- EAP ended if eap
 unfoldable pub ended : Phase → ℕ
-ended p = cond (isIn "eap" p) 1 0
+ended p = cond (isIn Stage.eap p) 1 0
 
 -- hold by timer: until time plus count times unit, without end, or none
 unfoldable pub timerHold : ℕ → Timer → Address → List Hold

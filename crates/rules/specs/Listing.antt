@@ -1,5 +1,6 @@
 -- The listing of one tenant: open lines by rising number, each with its children in the order made (document 01, 'Listing of one tenant').
 use Prim.Native.Nat.{ℕ, suc}
+use Prim.Native.String.{String}
 use mathlib.Core.List.{List, [], _∷_, _++_}
 use mathlib.Core.Option.{Option, none, some}
 use lib.ListN.{length}
@@ -7,10 +8,11 @@ use Rattle.octets.specs.Row.{joined}
 use Rattle.address.specs.declared.Address.{Address}
 use Rattle.address.specs.declared.Address.the-variants.{V4, V6}
 use Rattle.children.specs.declared.Child.{Child}
+use Rattle.phase.specs.Stage.{Stage, stageOf}
+use Rattle.phase.specs.Stage as Stage
 use Rattle.record.specs.Line.{Line}
 use Rattle.record.specs.Sound.{chosen}
 use Rattle.text.specs.Text.{text, decimal, digitText}
-use Rattle.rules.specs.Phases.{word}
 
 -- a tab between fields, a newline after a record
 unfoldable pub tab : List ℕ
@@ -18,6 +20,18 @@ tab = 9 ∷ []
 
 unfoldable pub newline : List ℕ
 newline = 10 ∷ []
+
+-- the phase word as in the table in 'Life of a line'
+unfoldable pub word : Stage → String
+word Stage.idle = "idle"
+word Stage.country = "country"
+word Stage.name = "name"
+word Stage.chosen = "chosen"
+word Stage.init = "init"
+word Stage.auth = "auth"
+word Stage.eap = "eap"
+word Stage.sure = "sure"
+word Stage.live = "live"
 
 -- the chosen address in hex, 8 or 32 lower-case digits, or a hyphen
 unfoldable pub addressText : Option Address → List ℕ
@@ -32,7 +46,7 @@ childText n c = text "child" ++ tab ++ decimal n ++ tab ++ digitText 16 8 (c .sp
 -- a line has its number, the phase word, the chosen address, the count of children
 unfoldable pub lineText : ℕ → Line → List ℕ
 lineText n x =
-    text "line" ++ tab ++ decimal n ++ tab ++ text (word (x .phase)) ++ tab ++ addressText (chosen (x .phase)) ++ tab
+    text "line" ++ tab ++ decimal n ++ tab ++ text (word (stageOf (x .phase))) ++ tab ++ addressText (chosen (x .phase)) ++ tab
     ++ decimal (length (x .children)) ++ newline ++ joined (childText n) (x .children)
 
 -- the lines from one number on, those that are open

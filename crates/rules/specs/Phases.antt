@@ -1,34 +1,18 @@
 -- What the rules ask of a phase.
 use Prim.Native.Nat.{ℕ}
-use Prim.Native.String.{String}
 use mathlib.Core.Bool.{Bool, true, false, _||_}
 use mathlib.Core.Option.{Option, none, some}
-use Rattle.octets.specs.Part.{same}
+use Rattle.phase.specs.Stage.{isIn}
+use Rattle.phase.specs.Stage as Stage
 use Rattle.phase.specs.declared.Phase.{Phase}
 use Rattle.phase.specs.declared.Phase.the-variants.{Idle, Country, Name, Chosen, Init, Auth, Eap, Sure, Live}
 use Rattle.phase.specs.declared.Turn.{Turn}
 use Rattle.phase.specs.declared.Turn.the-variants.{First, Owed, Answered}
 use Rattle.place.specs.declared.Facts.{Facts}
-use Rattle.text.specs.Text.{text}
-
--- the phase word of the table in 'Life of a line'
-unfoldable pub word : Phase → String
-word Idle = "idle"
-word (Country f) = "country"
-word (Name f) = "name"
-word (Chosen a) = "chosen"
-word (Init a) = "init"
-word (Auth a) = "auth"
-word (Eap a t) = "eap"
-word (Sure a) = "sure"
-word (Live a) = "live"
-
-unfoldable pub isIn : String → Phase → Bool
-isIn w p = same (text w) (text (word p))
 
 -- the phases auth, eap and sure
 unfoldable pub underway : Phase → Bool
-underway p = isIn "auth" p || isIn "eap" p || isIn "sure" p
+underway p = isIn Stage.auth p || isIn Stage.eap p || isIn Stage.sure p
 
 -- the place facts while DNS runs
 unfoldable pub factsIn : Phase → Option Facts

@@ -14,12 +14,14 @@ use Rattle.eap.specs.declared.Packet.{Packet}
 use Rattle.eap.specs.declared.Packet.the-variants.{Start, NasRequest, Success, NasResponse, Stop, Other}
 use Rattle.lists.specs.Lists.{addressesFit, networksFit}
 use Rattle.parameters.specs.Parameters.{wellFormed}
+use Rattle.phase.specs.Stage.{isIn}
+use Rattle.phase.specs.Stage as Stage
 use Rattle.phase.specs.declared.Phase.{Phase}
 use Rattle.place.specs.declared.Facts.{Facts}
 use Rattle.record.specs.Line.{Line}
 use Rattle.selection.specs.Selection.{homeAbroad}
 use Rattle.rules.specs.Call.{Event, start, country, address, begin, init, eap, reply, final, error, congestion, give-up, child-made, child-deleted, ike-delete, factsOf, startNumbersFit}
-use Rattle.rules.specs.Phases.{factsIn, isFirst, isIn, lastReply, owed, turnIn, underway}
+use Rattle.rules.specs.Phases.{factsIn, isFirst, lastReply, owed, turnIn, underway}
 
 -- a configuration text over 1,024 octets is 8, one that isn't well formed 9
 unfoldable pub isLong : List ℕ → Bool
@@ -36,7 +38,7 @@ isHomeAbroad (some s) (some f) = homeAbroad s (f .place)
 
 -- the country answer's test is made where the line waits for that answer
 unfoldable pub waitsHomeAbroad : List ℕ → Phase → Bool
-waitsHomeAbroad text p = isIn "country" p && isHomeAbroad (configOf text) (factsIn p)
+waitsHomeAbroad text p = isIn Stage.country p && isHomeAbroad (configOf text) (factsIn p)
 
 -- a lent list of networks that isn't whole entries in their range, or that comes without a reply
 unfoldable pub badNetworks : ℕ → List ℕ → Bool
@@ -66,7 +68,7 @@ isNumber n none = false
 isNumber n (some m) = eqb n m
 
 unfoldable pub isDue : Packet → Phase → Bool
-isDue (Start i) p = isIn "auth" p
+isDue (Start i) p = isIn Stage.auth p
 isDue (NasRequest i at n) p = isSome (lastReply (turnIn p))
 isDue (Success i) p = isNumber i (lastReply (turnIn p))
 isDue (NasResponse i q m at n) p = false
@@ -81,24 +83,24 @@ unless allowed = 10 when not allowed
 unfoldable pub refusalsOf : Event → Bool → Line → List Refusal
 refusalsOf (start g text room) out x =
     (8 when (out || not (startNumbersFit g) || isLong text || isHomeAbroad (configOf text) (some (factsOf g))))
-    ∷ (9 when isMalformed text) ∷ unless (isIn "idle" (x .phase)) ∷ (13 when leb 8 (length (x .holds))) ∷ []
+    ∷ (9 when isMalformed text) ∷ unless (isIn Stage.idle (x .phase)) ∷ (13 when leb 8 (length (x .holds))) ∷ []
 refusalsOf (country replied networks text room) out x =
     (8 when (out || badNetworks replied networks || isLong text || waitsHomeAbroad text (x .phase)))
-    ∷ (9 when isMalformed text) ∷ unless (isIn "country" (x .phase)) ∷ []
-refusalsOf (address addresses) out x = (8 when (out || not (addressesFit addresses))) ∷ unless (isIn "name" (x .phase)) ∷ []
-refusalsOf begin out x = (8 when out) ∷ unless (isIn "chosen" (x .phase)) ∷ []
-refusalsOf init out x = (8 when out) ∷ unless (isIn "init" (x .phase)) ∷ []
+    ∷ (9 when isMalformed text) ∷ unless (isIn Stage.country (x .phase)) ∷ []
+refusalsOf (address addresses) out x = (8 when (out || not (addressesFit addresses))) ∷ unless (isIn Stage.name (x .phase)) ∷ []
+refusalsOf begin out x = (8 when out) ∷ unless (isIn Stage.chosen (x .phase)) ∷ []
+refusalsOf init out x = (8 when out) ∷ unless (isIn Stage.init (x .phase)) ∷ []
 refusalsOf (eap packet) out x =
     (8 when out) ∷ (9 when not (isTakenApart (readPacket packet))) ∷ unless (isDue (readPacket packet) (x .phase)) ∷ []
 refusalsOf (reply parameters nas room) out x =
     (8 when (out || badReply parameters nas (x .phase))) ∷ (9 when not (wellFormed parameters)) ∷ unless (isSome (owed (turnIn (x .phase)))) ∷ []
-refusalsOf (final good) out x = (8 when (out || ltb 1 good)) ∷ unless (isIn "sure" (x .phase)) ∷ []
+refusalsOf (final good) out x = (8 when (out || ltb 1 good)) ∷ unless (isIn Stage.sure (x .phase)) ∷ []
 refusalsOf (error number) out x = (8 when (out || ltb number 1 || ltb 16383 number)) ∷ unless (underway (x .phase)) ∷ []
 refusalsOf (congestion authenticated timer) out x =
     (8 when (out || ltb 1 authenticated || ltb 255 timer)) ∷ unless (eqb authenticated 1 && underway (x .phase)) ∷ []
-refusalsOf give-up out x = (8 when out) ∷ unless (not (isIn "idle" (x .phase)) && not (isIn "live" (x .phase))) ∷ []
+refusalsOf give-up out x = (8 when out) ∷ unless (not (isIn Stage.idle (x .phase)) && not (isIn Stage.live (x .phase))) ∷ []
 refusalsOf (child-made spi session) out x =
-    (8 when (out || badChild spi session)) ∷ unless (isIn "live" (x .phase)) ∷ (11 when hasSpi spi (x .children))
+    (8 when (out || badChild spi session)) ∷ unless (isIn Stage.live (x .phase)) ∷ (11 when hasSpi spi (x .children))
     ∷ (12 when leb 8 (length (x .children))) ∷ []
-refusalsOf (child-deleted spi) out x = (8 when out) ∷ unless (isIn "live" (x .phase) && hasSpi spi (x .children)) ∷ []
-refusalsOf ike-delete out x = (8 when out) ∷ unless (isIn "live" (x .phase)) ∷ []
+refusalsOf (child-deleted spi) out x = (8 when out) ∷ unless (isIn Stage.live (x .phase) && hasSpi spi (x .children)) ∷ []
+refusalsOf ike-delete out x = (8 when out) ∷ unless (isIn Stage.live (x .phase)) ∷ []

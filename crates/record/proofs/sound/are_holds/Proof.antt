@@ -6,7 +6,7 @@ use lib.Seq.{length-take-le}
 use borrow.Author.Tests.{not-true, not-false}
 use borrow.Author.Needs.{needs}
 use Rattle.address.specs.Address.{heldAddresses}
-use Rattle.record.proofs.Sounds.{no-room, held-twice, chosen-storable, by-ends}
+use Rattle.record.proofs.Sounds.{no-room, held-twice, chosen-held, by-ends}
 use Rattle.record.proofs.sound.are_holds.Statement.{statement}
 use Rattle.record.proofs.sound.are_holds.Tie as tie
 
@@ -38,7 +38,7 @@ returns-3 c =
     let a = c .before .before .before .before .before .before .args in
     let sized : length (a .list) ≡ 8 = search needs in
     let size : length (take (a .n) (a .list)) ≡ a .n = length-take-le (a .n) (a .list) (omega arith) in
-    chosen-storable (a .time) (a .phase) (take (a .n) (a .list)) (a .n) size (c .before .before .before .before .before .before .pre) (sym (c .before .before .before .before .before .has-room .ensures) ∙ not-false _ (c .before .before .before .before .if1 .left)) (sym (c .before .before .before .are-different .ensures) ∙ not-false _ (c .before .before .if2 .left)) (sym (c .before .is-free .ensures) ∙ not-true _ (c .if3 .taken))
+    chosen-held (a .time) (a .phase) (take (a .n) (a .list)) (a .n) size (c .before .before .before .before .before .before .pre) (sym (c .before .before .before .before .before .has-room .ensures) ∙ not-false _ (c .before .before .before .before .if1 .left)) (sym (c .before .before .before .are-different .ensures) ∙ not-false _ (c .before .before .if2 .left)) (sym (c .before .is-free .ensures) ∙ not-true _ (c .if3 .taken))
 
 all-end-after-requires : tie.Need-all-end-after-requires
 all-end-after-requires c κs = search needs
