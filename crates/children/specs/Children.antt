@@ -1,4 +1,4 @@
--- A child association in 5 octets: its SPI and its session. A line has room for 8.
+-- A child association in octets: its SPI and its session.
 use Prim.Native.Nat.{ℕ, _+_, _-_, _*_}
 use mathlib.Core.Bool.{Bool, _&&_}
 use mathlib.Core.List.{List, _++_}
@@ -9,11 +9,21 @@ use Rattle.octets.specs.Row.{joined, row}
 use Rattle.octets.specs.Search.{anyOf, distinct}
 use Rattle.children.specs.declared.Child.{Child}
 
+-- the octets of a child, how many children a line has at most, and the room for them
+abbrev pub childLength : ℕ
+childLength = 5
+
+abbrev pub mostChildren : ℕ
+mostChildren = 8
+
+abbrev pub childrenRoom : ℕ
+childrenRoom = mostChildren * childLength
+
 unfoldable pub childOctets : Child → List ℕ
 childOctets c = be 4 (c .spi) ++ be 1 (c .session)
 
 unfoldable pub childrenOctets : List Child → List ℕ
-childrenOctets cs = padded 40 (joined childOctets cs)
+childrenOctets cs = padded childrenRoom (joined childOctets cs)
 
 -- the child at a place
 unfoldable pub childFrom : List ℕ → ℕ → Child
@@ -21,14 +31,14 @@ childFrom l at = record { spi = field l at 4; session = field l (at + 4) 1 }
 
 -- the child with a number among those that begin at a place
 unfoldable pub childIn : List ℕ → ℕ → ℕ → Child
-childIn l at i = childFrom l (at + 5 * i)
+childIn l at i = childFrom l (at + childLength * i)
 
 unfoldable pub childrenFrom : List ℕ → ℕ → ℕ → List Child
 childrenFrom l at n = row (childIn l at) 0 n
 
--- at most 8 children, and zeros in the places behind them
+-- so many children at most, and zeros in the places behind them
 unfoldable pub childrenWritten : List ℕ → ℕ → ℕ → Bool
-childrenWritten l at n = leb n 8 && zerosAt l (at + 5 * n) (40 - 5 * n)
+childrenWritten l at n = leb n mostChildren && zerosAt l (at + childLength * n) (childrenRoom - childLength * n)
 
 -- an SPI stands on a line
 unfoldable pub isSpi : ℕ → Child → Bool

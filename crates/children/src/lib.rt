@@ -8,7 +8,7 @@ ghost use lib.ListN.{drop, length, take};
 ghost use Rattle.octets.specs.Part.{Wrote};
 ghost use Rattle.octets.specs.Row.{joined};
 ghost use Rattle.octets.specs.Search.{allOf};
-ghost use Rattle.children.specs.Children.{childFits, childFrom, childOctets, childrenFrom, childrenWritten, hasSpi, spisDiffer};
+ghost use Rattle.children.specs.Children.{childFits, childFrom, childLength, childOctets, childrenFrom, childrenRoom, childrenWritten, hasSpi, mostChildren, spisDiffer};
 ghost use Rattle.children.specs.Laws.{Laws};
 
 // A child association.
@@ -20,9 +20,15 @@ pub struct Child {
 // How many children a line has room for.
 pub const CHILDREN: usize = 8;
 
+// The octets of a child.
+const LENGTH: usize = 5;
+
+// The octets of all the children that a line has room for.
+pub const CHILDREN_ROOM: usize = CHILDREN * LENGTH;
+
 // The child at a place.
 fn read_child(b: &[u8], at: usize) -> Child
-    requires { ⌜ at + 5 ≤ length (now b) ⌝ }
+    requires { ⌜ at + childLength ≤ length (now b) ⌝ }
     ensures { λ r. ⌜ r ≡ childFrom (now (b .entry)) at ⌝ }
 {
     Child {
@@ -33,7 +39,7 @@ fn read_child(b: &[u8], at: usize) -> Child
 
 // Stores a child at a place.
 fn put_child(b: &mut [u8], at: usize, child: Child)
-    requires { ⌜ at + 5 ≤ length (now b) ⌝ }
+    requires { ⌜ at + childLength ≤ length (now b) ⌝ }
     ensures { λ _. ⌜ Wrote (now (b .entry)) at (childOctets child) (now (b .exit)) ⌝ }
 {
     put(b, at, 4, child.spi);
@@ -42,13 +48,13 @@ fn put_child(b: &mut [u8], at: usize, child: Child)
 
 // The first n children of those that begin at a place.
 pub fn read_children(b: &[u8], at: usize, n: usize) -> [Child; CHILDREN]
-    requires { ⌜ (at + 40 ≤ length (now b)) × (n ≤ 8) ⌝ }
+    requires { ⌜ (at + childrenRoom ≤ length (now b)) × (n ≤ mostChildren) ⌝ }
     ensures { λ r. ⌜ take n r ≡ childrenFrom (now (b .entry)) at n ⌝ }
 {
     let mut list = [Child { spi: 0, session: 0 }; CHILDREN];
     let mut i = 0;
     while i < n {
-        list[i] = read_child(b, at + 5 * i);
+        list[i] = read_child(b, at + LENGTH * i);
         i += 1;
     }
     list
@@ -56,32 +62,32 @@ pub fn read_children(b: &[u8], at: usize, n: usize) -> [Child; CHILDREN]
 
 // Stores the first n children of a list from a place on.
 pub fn put_children(b: &mut [u8], at: usize, list: [Child; CHILDREN], n: usize)
-    requires { ⌜ (at + 40 ≤ length (now b)) × (n ≤ 8) ⌝ }
+    requires { ⌜ (at + childrenRoom ≤ length (now b)) × (n ≤ mostChildren) ⌝ }
     ensures { λ _. ⌜ Wrote (now (b .entry)) at (joined childOctets (take n list)) (now (b .exit)) ⌝ }
     ensures { λ _. ⌜ length (take n list) ≡ n ⌝ }
 {
     let mut i = 0;
     while i < n {
         let child = list[i];
-        put_child(b, at + 5 * i, child);
+        put_child(b, at + LENGTH * i, child);
         i += 1;
     }
 }
 
 // Whether at most 8 children stand at a place, and zeros behind them.
 pub fn are_written(b: &[u8], at: usize, n: usize) -> bool
-    requires { ⌜ at + 40 ≤ length (now b) ⌝ }
+    requires { ⌜ at + childrenRoom ≤ length (now b) ⌝ }
     ensures { λ r. ⌜ r ≡ childrenWritten (now (b .entry)) at n ⌝ }
 {
     if CHILDREN < n {
         return false;
     }
-    zeros_at(b, at + 5 * n, 40 - 5 * n)
+    zeros_at(b, at + LENGTH * n, CHILDREN_ROOM - LENGTH * n)
 }
 
 // Whether an SPI stands among the first n children, from a place on.
 pub fn has_spi(list: [Child; CHILDREN], from: usize, n: usize, spi: u64) -> bool
-    requires { ⌜ (from ≤ n) × (n ≤ 8) ⌝ }
+    requires { ⌜ (from ≤ n) × (n ≤ mostChildren) ⌝ }
     ensures { λ r. ⌜ r ≡ hasSpi spi (drop from (take n list)) ⌝ }
 {
     let mut i = from;
@@ -97,7 +103,7 @@ pub fn has_spi(list: [Child; CHILDREN], from: usize, n: usize, spi: u64) -> bool
 
 // Whether the first n children have different SPIs.
 pub fn are_different(list: [Child; CHILDREN], n: usize) -> bool
-    requires { ⌜ n ≤ 8 ⌝ }
+    requires { ⌜ n ≤ mostChildren ⌝ }
     ensures { λ r. ⌜ r ≡ spisDiffer (take n list) ⌝ }
 {
     let mut i = 0;
@@ -120,7 +126,7 @@ pub fn child_fits(child: Child) -> bool
 
 // Whether the numbers of each of the first n children are in their ranges.
 pub fn all_fit(list: [Child; CHILDREN], n: usize) -> bool
-    requires { ⌜ n ≤ 8 ⌝ }
+    requires { ⌜ n ≤ mostChildren ⌝ }
     ensures { λ r. ⌜ r ≡ allOf childFits (take n list) ⌝ }
 {
     let mut i = 0;

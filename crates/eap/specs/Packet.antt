@@ -6,7 +6,7 @@ use lib.Dec.{leb, eqb}
 use lib.ListN.{length}
 use Rattle.octets.specs.Digits.{field}
 use Rattle.octets.specs.Part.{part}
-use Rattle.parameters.specs.Parameters.{wellFormed}
+use Rattle.parameters.specs.Parameters.{mostParameters, wellFormed}
 use Rattle.eap.specs.declared.Packet.{Packet}
 use Rattle.eap.specs.declared.Packet.the-variants.{Start, NasRequest, Success, NasResponse, Stop, Other}
 
@@ -57,13 +57,17 @@ isMessage c m l = isExpanded l && eqb (code l) c && eqb (message l) m
 unfoldable pub fits : List ℕ → ℕ → Bool
 fits l at = leb (at + 2) (length l) && leb (at + 2 + field l at 2) (length l)
 
--- NAS of 1 to 2,048 octets behind its length at a place
-unfoldable pub isNas : List ℕ → ℕ → Bool
-isNas l at = fits l at && leb 1 (field l at 2) && leb (field l at 2) 2048
+-- NAS has 1 to 2,048 octets
+abbrev pub mostNas : ℕ
+mostNas = 2048
 
--- AN-parameters of 0 to 1,024 octets behind their length at a place, ending exactly
+-- NAS behind its length at a place
+unfoldable pub isNas : List ℕ → ℕ → Bool
+isNas l at = fits l at && leb 1 (field l at 2) && leb (field l at 2) mostNas
+
+-- AN-parameters behind their length at a place, ending exactly
 unfoldable pub isParameters : List ℕ → ℕ → Bool
-isParameters l at = fits l at && leb (field l at 2) 1024 && wellFormed (part l (at + 2) (field l at 2))
+isParameters l at = fits l at && leb (field l at 2) mostParameters && wellFormed (part l (at + 2) (field l at 2))
 
 -- a NAS request goes on with NAS
 unfoldable pub isNasRequest : List ℕ → Bool

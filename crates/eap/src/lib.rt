@@ -1,6 +1,7 @@
 // The reader of EAP-5G packets.
 use octets::number::get;
 use octets::slice::part;
+use parameters::MOST_PARAMETERS;
 use parameters::well_formed;
 ghost use mathlib.Core.Path.{_≡_};
 ghost use Prim.Native.Nat.{_≤_};
@@ -8,6 +9,9 @@ ghost use lib.ListN.{length};
 ghost use Rattle.octets.specs.Digits.{field};
 ghost use Rattle.eap.specs.Packet.{fits, isExpanded, isNas, isParameters, readPacket, nasOf, nasLength};
 ghost use Rattle.eap.specs.Branch.{blockOf, requestOf, responseOf};
+
+// The most octets that NAS has.
+pub const MOST_NAS: usize = 2048;
 
 // A packet: its identifier, and where its AN-parameters and its NAS stand and how long they are.
 pub enum Packet {
@@ -70,7 +74,7 @@ fn nas_at(packet: &[u8], at: usize) -> Block
     if length < 1 {
         return Block::Broken;
     }
-    if 2048 < length {
+    if MOST_NAS < length {
         return Block::Broken;
     }
     Block::Length(length)
@@ -83,7 +87,7 @@ fn parameters_at(packet: &[u8], at: usize) -> Block
     let Block::Length(length) = block_at(packet, at) else {
         return Block::Broken;
     };
-    if 1024 < length {
+    if MOST_PARAMETERS < length {
         return Block::Broken;
     }
     if !well_formed(part(packet, at + 2, length)) {

@@ -7,13 +7,17 @@ use lib.ListN.{length}
 use Rattle.octets.specs.Digits.{field}
 use Rattle.octets.specs.Row.{row}
 use Rattle.octets.specs.Search.{all}
+use Rattle.network.specs.Plmn.{plmnFits}
 use Rattle.network.specs.declared.Plmn.{Plmn}
 use Rattle.address.specs.declared.Address.{Address}
 use Rattle.addresses.specs.Addresses.{addressFrom, isAddress}
 
 -- at most 16 whole entries of a size
+abbrev pub mostEntries : ℕ
+mostEntries = 16
+
 unfoldable pub whole : ℕ → List ℕ → Bool
-whole size l = eqb (length l % size) 0 && leb (length l / size) 16
+whole size l = eqb (length l % size) 0 && leb (length l / size) mostEntries
 
 -- a network is its MCC and its MNC, two octets each
 unfoldable pub networkAt : List ℕ → ℕ → Plmn
@@ -21,7 +25,7 @@ networkAt l i = record { mcc = field l (4 * i) 2; mnc = field l (4 * i + 2) 2 }
 
 -- MCC and MNC are 0 to 999
 unfoldable pub networkFits : List ℕ → ℕ → Bool
-networkFits l i = leb (networkAt l i .mcc) 999 && leb (networkAt l i .mnc) 999
+networkFits l i = plmnFits (networkAt l i)
 
 -- a list of networks that is not refused by 8
 unfoldable pub networksFit : List ℕ → Bool

@@ -2,12 +2,16 @@
 use address::Address;
 use addresses::is_address;
 use addresses::read_address;
+use network::MOST_CODE;
 use network::Plmn;
 use octets::number::get;
 ghost use mathlib.Core.Path.{_≡_};
 ghost use Prim.Native.Nat.{_+_, _*_, _≤_, _<_};
 ghost use lib.ListN.{length};
 ghost use Rattle.lists.specs.Lists.{addressAt, addressesFit, addressFits, networkAt, networkFits, networksFit, whole};
+
+// How many entries a lent list may have.
+const ENTRIES: usize = 16;
 
 // Whether a list has at most 16 whole entries of a size.
 fn is_whole(list: &[u8], size: usize) -> bool
@@ -17,7 +21,7 @@ fn is_whole(list: &[u8], size: usize) -> bool
     if list.len() % size != 0 {
         return false;
     }
-    list.len() / size <= 16
+    list.len() / size <= ENTRIES
 }
 
 // The network at a place.
@@ -37,7 +41,7 @@ fn network_fits(list: &[u8], i: usize) -> bool
     ensures { λ r. ⌜ r ≡ networkFits (now (list .entry)) i ⌝ }
 {
     let p = network_at(list, i);
-    (p.mcc <= 999) & (p.mnc <= 999)
+    (p.mcc <= MOST_CODE) & (p.mnc <= MOST_CODE)
 }
 
 // Whether a list is one of networks.

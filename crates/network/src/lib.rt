@@ -12,6 +12,9 @@ ghost use Rattle.network.specs.Name.{operatorName, visitedName, Named};
 ghost use Rattle.network.specs.Laws.{Laws};
 ghost use Rattle.network.specs.Plmn.{samePlmn};
 
+// The highest MCC and MNC.
+pub const MOST_CODE: u64 = 999;
+
 // A PLMN: the code of a country and the code of a network within it.
 pub struct Plmn {
     pub mcc: u64,

@@ -8,6 +8,10 @@ use Rattle.octets.specs.Digits.{field}
 use Rattle.parameters.specs.declared.Parameter.{Parameter}
 use Rattle.parameters.specs.declared.Parameter.the-variants.{Whole, End, Broken}
 
+-- AN-parameters have 0 to 1,024 octets in all
+abbrev pub mostParameters : ℕ
+mostParameters = 1024
+
 -- at most n AN-parameters follow one another and end exactly with the list
 unfoldable pub wellFormedIn : ℕ → List ℕ → Bool
 wellFormedIn zero [] = true

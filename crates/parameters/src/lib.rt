@@ -3,6 +3,9 @@ use octets::number::get;
 ghost use mathlib.Core.Path.{_≡_};
 ghost use Rattle.parameters.specs.Parameters.{parameterAt, wellFormed};
 
+// The most octets that AN-parameters have in all.
+pub const MOST_PARAMETERS: usize = 1024;
+
 // What stands at a place of a block of AN-parameters.
 pub enum Parameter {
     // A whole one: its type, where its value starts, how long that is, and the place after it.

@@ -5,6 +5,7 @@ use mathlib.Core.List.{List, _++_}
 use lib.Dec.{leb, eqb}
 use Rattle.octets.specs.Digits.{be, field}
 use Rattle.octets.specs.Part.{zerosAt}
+use Rattle.network.specs.Plmn.{mostCode, plmnFits}
 use Rattle.network.specs.declared.MaybePlmn.{MaybePlmn}
 use Rattle.network.specs.declared.MaybePlmn.the-variants.{Is, None}
 use Rattle.place.specs.declared.Facts.{Facts}
@@ -47,11 +48,11 @@ factsWritten l at = placeWritten l at && registeredWritten l (at + 3)
 unfoldable pub placeFits : Place → Bool
 placeFits Unknown = false
 placeFits Home = true
-placeFits (Abroad mcc) = leb mcc 999
+placeFits (Abroad mcc) = leb mcc mostCode
 
 unfoldable pub registeredFits : MaybePlmn → Bool
 registeredFits None = true
-registeredFits (Is p) = leb (p .mcc) 999 && leb (p .mnc) 999
+registeredFits (Is p) = plmnFits p
 
 -- the local IP version is 4 or 6
 unfoldable pub factsFit : Facts → Bool

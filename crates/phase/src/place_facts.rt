@@ -1,4 +1,5 @@
 // Place facts in octets.
+use network::MOST_CODE;
 use network::MaybePlmn;
 use network::Plmn;
 use octets::number::get;
@@ -114,7 +115,7 @@ fn is_place(list: &[u8], at: usize) -> bool
     if which != 2 {
         return false;
     }
-    get(list, at + 1, 2) <= 999
+    get(list, at + 1, 2) <= MOST_CODE
 }
 
 // Whether a registered PLMN in its ranges, or none, stands in 5 octets.
@@ -129,10 +130,10 @@ fn is_registered(list: &[u8], at: usize) -> bool
     if there != 1 {
         return false;
     }
-    if 999 < get(list, at + 1, 2) {
+    if MOST_CODE < get(list, at + 1, 2) {
         return false;
     }
-    get(list, at + 3, 2) <= 999
+    get(list, at + 3, 2) <= MOST_CODE
 }
 
 // Whether place facts that may be kept stand in 9 octets.

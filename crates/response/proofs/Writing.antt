@@ -14,7 +14,7 @@ use Rattle.octets.proofs.Parts.{length-zeros, padded-wrote}
 use Rattle.octets.proofs.Refusals.{refusal-step}
 use Rattle.octets.proofs.Search.{or-left, or-right}
 use Rattle.parameters.specs.Parameters.{wellFormed}
-use Rattle.response.specs.Response.{header, block, response, outOfRange, writeRefusal, written}
+use Rattle.response.specs.Response.{header, block, response, lentOutOfRange, outOfRange, writeRefusal, written}
 
 pub length-block : (l : List ℕ) → length (block l) ≡ 2 + length l
 unfolding block be digits
@@ -41,20 +41,20 @@ pub record Accepted (i : ℕ) (p n : List ℕ) (room : ℕ) : Type 0 where
 
 module _ (i : ℕ) (p n : List ℕ) (room : ℕ) where
   pub accepted : writeRefusal i p n room ≡ 0 → Accepted i p n room
-  unfolding writeRefusal outOfRange
+  unfolding writeRefusal outOfRange lentOutOfRange
   accepted e =
       let first = refusal-step 2 (ltb room 3090) ((8 when outOfRange i p n) ∷ (9 when not (wellFormed p)) ∷ []) e in
       let second = refusal-step 7 (outOfRange i p n) ((9 when not (wellFormed p)) ∷ []) (first .1) in
       let third = refusal-step 8 (not (wellFormed p)) [] (second .1) in
       let range = second .0 in
-      let three = or-left (ltb 255 i || ltb 1024 (length p) || ltb (length n) 1) (ltb 2048 (length n)) range in
-      let two = or-left (ltb 255 i || ltb 1024 (length p)) (ltb (length n) 1) three in
+      let lent = or-right (ltb 255 i) (ltb 1024 (length p) || ltb (length n) 1 || ltb 2048 (length n)) range in
+      let two = or-left (ltb 1024 (length p) || ltb (length n) 1) (ltb 2048 (length n)) lent in
       record {
         enough = ltb-false _ _ (first .0);
-        octet = ltb-false _ _ (or-left (ltb 255 i) (ltb 1024 (length p)) two);
-        parameters-short = ltb-false _ _ (or-right (ltb 255 i) (ltb 1024 (length p)) two);
-        nas-some = ltb-false _ _ (or-right (ltb 255 i || ltb 1024 (length p)) (ltb (length n) 1) three);
-        nas-short = ltb-false _ _ (or-right (ltb 255 i || ltb 1024 (length p) || ltb (length n) 1) (ltb 2048 (length n)) range);
+        octet = ltb-false _ _ (or-left (ltb 255 i) (ltb 1024 (length p) || ltb (length n) 1 || ltb 2048 (length n)) range);
+        parameters-short = ltb-false _ _ (or-left (ltb 1024 (length p)) (ltb (length n) 1) two);
+        nas-some = ltb-false _ _ (or-right (ltb 1024 (length p)) (ltb (length n) 1) two);
+        nas-short = ltb-false _ _ (or-right (ltb 1024 (length p) || ltb (length n) 1) (ltb 2048 (length n)) lent);
         ends = not-false (wellFormed p) (third .0);
       }
 
@@ -73,28 +73,28 @@ module _ (i : ℕ) (p n : List ℕ) (room : ℕ) where
     out-of-range e = simp (le-ltb room 3090 enough, e)
 
     pub identifier-high : 255 < i → 8 ≡ writeRefusal i p n room
-    unfolding outOfRange
+    unfolding outOfRange lentOutOfRange
     identifier-high h = out-of-range (simp (lt-ltb 255 i h))
 
     module _ (octet : i ≤ 255) where
       pub parameters-long : 1024 < length p → 8 ≡ writeRefusal i p n room
-      unfolding outOfRange
+      unfolding outOfRange lentOutOfRange
       parameters-long h = out-of-range (simp (le-ltb 255 i octet, lt-ltb 1024 (length p) h))
 
       module _ (short : length p ≤ 1024) where
         pub nas-empty : length n < 1 → 8 ≡ writeRefusal i p n room
-        unfolding outOfRange
+        unfolding outOfRange lentOutOfRange
         nas-empty h = out-of-range (simp (le-ltb 255 i octet, le-ltb 1024 (length p) short, lt-ltb (length n) 1 h))
 
         module _ (some : 1 ≤ length n) where
           pub nas-long : 2048 < length n → 8 ≡ writeRefusal i p n room
-          unfolding outOfRange
+          unfolding outOfRange lentOutOfRange
           nas-long h =
               out-of-range (simp (le-ltb 255 i octet, le-ltb 1024 (length p) short, le-ltb (length n) 1 some, lt-ltb 2048 (length n) h))
 
           -- what is in range is refused by its AN-parameters alone
           pub by-parameters : length n ≤ 2048 → writeRefusal i p n room ≡ cond (not (wellFormed p)) 9 0
-          unfolding writeRefusal refusal outOfRange
+          unfolding writeRefusal refusal outOfRange lentOutOfRange
           by-parameters h =
               simp (le-ltb room 3090 enough, le-ltb 255 i octet, le-ltb 1024 (length p) short, le-ltb (length n) 1 some, le-ltb 2048 (length n) h)
 

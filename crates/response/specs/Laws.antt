@@ -8,7 +8,7 @@ use Rattle.octets.specs.Laws.{below}
 use Rattle.octets.specs.Part.{part}
 use Rattle.octets.specs.Search.{allOf}
 use Rattle.eap.specs.Packet.{readPacket, spare}
-use Rattle.response.specs.Response.{response, writeRefusal}
+use Rattle.response.specs.Response.{replyRoom, response, writeRefusal}
 use Rattle.eap.specs.declared.Packet.the-variants.{NasResponse}
 
 -- a packet is read as a NAS response with these fields
@@ -23,7 +23,7 @@ pub record Laws : Type 0 where
       → Reads (response identifier parameters nas) identifier parameters nas
   -- what is read is not refused, and is written back as the same octets where spare is 0 and nothing follows NAS
   pub read-write : (l : List ℕ) → allOf (below 256) l ≡ true → (identifier p m at n : ℕ) → readPacket l ≡ NasResponse identifier p m at n
-      → (writeRefusal identifier (part l p m) (part l at n) 3090 ≡ 0)
+      → (writeRefusal identifier (part l p m) (part l at n) replyRoom ≡ 0)
       × (spare l ≡ 0 → at + n ≡ length l → response identifier (part l p m) (part l at n) ≡ l)
   -- a response fits the smallest buffer
   pub response-fits : (identifier : ℕ) (parameters nas : List ℕ) (room : ℕ) → writeRefusal identifier parameters nas room ≡ 0

@@ -7,7 +7,12 @@ use lib.ListN.{length}
 use Rattle.octets.specs.Digits.{be}
 use Rattle.octets.specs.Part.{zeros, padded}
 use Rattle.octets.specs.Refusal.{_when_, refusal}
-use Rattle.parameters.specs.Parameters.{wellFormed}
+use Rattle.parameters.specs.Parameters.{mostParameters, wellFormed}
+use Rattle.eap.specs.Packet.{mostNas}
+
+-- a reply is written to a buffer of at least so many octets
+abbrev pub replyRoom : ℕ
+replyRoom = 3090
 
 -- the first 14 octets: code, identifier, length, type, vendor, vendor type, message, spare
 unfoldable pub header : ℕ → ℕ → ℕ → ℕ → List ℕ
@@ -23,16 +28,19 @@ unfoldable pub response : ℕ → List ℕ → List ℕ → List ℕ
 response identifier parameters nas =
     header 2 identifier (18 + length parameters + length nas) 2 ++ block parameters ++ block nas
 
--- an identifier, AN-parameters or NAS that can't be written
+-- AN-parameters over 1,024 octets, NAS of none or over 2,048
+unfoldable pub lentOutOfRange : List ℕ → List ℕ → Bool
+lentOutOfRange parameters nas = ltb mostParameters (length parameters) || ltb (length nas) 1 || ltb mostNas (length nas)
+
+-- an identifier of more than one octet, or lent octets out of their range
 unfoldable pub outOfRange : ℕ → List ℕ → List ℕ → Bool
-outOfRange identifier parameters nas =
-    ltb 255 identifier || ltb 1024 (length parameters) || ltb (length nas) 1 || ltb 2048 (length nas)
+outOfRange identifier parameters nas = ltb 255 identifier || lentOutOfRange parameters nas
 
 -- the refusal of a NAS response for a buffer of so many octets, 0 where it is written
 unfoldable pub writeRefusal : ℕ → List ℕ → List ℕ → ℕ → ℕ
 writeRefusal identifier parameters nas room =
     refusal
-    ((3 when ltb room 3090) ∷ (8 when outOfRange identifier parameters nas) ∷ (9 when not (wellFormed parameters)) ∷ [])
+    ((3 when ltb room replyRoom) ∷ (8 when outOfRange identifier parameters nas) ∷ (9 when not (wellFormed parameters)) ∷ [])
 
 -- the buffer afterwards: the response and zeros, or zeros alone where it is refused
 unfoldable pub written : ℕ → List ℕ → List ℕ → ℕ → List ℕ

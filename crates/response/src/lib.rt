@@ -1,7 +1,9 @@
 // The writer of NAS responses.
+use eap::MOST_NAS;
 use octets::number::put;
 use octets::slice::copy;
 use octets::slice::zero;
+use parameters::MOST_PARAMETERS;
 use parameters::well_formed;
 ghost use mathlib.Core.Path.{_≡_};
 ghost use Prim.Native.Nat.{_+_, _≤_, _<_};
@@ -11,25 +13,25 @@ ghost use Rattle.response.specs.Laws.{Laws};
 ghost use Rattle.response.specs.Response.{block, header, writeRefusal, written};
 
 // The smallest buffer that a response is written to.
-const ROOM: usize = 3090;
+pub const REPLY_ROOM: usize = 3090;
 
 // The refusal number for what is lent, 0 where there is none.
 fn refusal(identifier: u64, parameters: &[u8], nas: &[u8], room: usize) -> u64
     ensures { λ r. ⌜ r ≡ writeRefusal identifier (now (parameters .entry)) (now (nas .entry)) room ⌝ }
 {
-    if room < ROOM {
+    if room < REPLY_ROOM {
         return 3;
     }
     if 255 < identifier {
         return 8;
     }
-    if 1024 < parameters.len() {
+    if MOST_PARAMETERS < parameters.len() {
         return 8;
     }
     if nas.len() < 1 {
         return 8;
     }
-    if 2048 < nas.len() {
+    if MOST_NAS < nas.len() {
         return 8;
     }
     if !well_formed(parameters) {

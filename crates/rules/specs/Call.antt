@@ -3,11 +3,34 @@ use Prim.Native.Nat.{ℕ, suc, _+_, _*_}
 use mathlib.Core.Bool.{Bool, cond, _&&_, _||_}
 use mathlib.Core.List.{List, [], _++_}
 use lib.Dec.{leb, eqb}
+use Rattle.network.specs.Plmn.{mostCode}
 use Rattle.network.specs.declared.MaybePlmn.{MaybePlmn}
 use Rattle.network.specs.declared.MaybePlmn.the-variants.{Is, None}
 use Rattle.place.specs.declared.Facts.{Facts}
 use Rattle.place.specs.declared.Place.{Place}
 use Rattle.place.specs.declared.Place.the-variants.{Unknown, Home, Abroad}
+
+-- a built name is written to a name buffer of at least so many octets, a listing to one of at least so many
+abbrev pub nameRoom : ℕ
+nameRoom = 64
+
+abbrev pub listingRoom : ℕ
+listingRoom = 1024
+
+-- a configuration text has at most so many octets
+abbrev pub mostText : ℕ
+mostText = 1024
+
+-- the last time that a call may carry
+abbrev pub lastTime : ℕ
+lastTime = 4_294_967_295
+
+-- the highest tenant, and the highest line of a tenant
+abbrev pub lastTenant : ℕ
+lastTenant = 15
+
+abbrev pub lastLine : ℕ
+lastLine = 3
 
 -- the numbers of a start: the place and the visited MCC, whether registered and to which PLMN, the local IP version
 pub record StartNumbers : Type 0 where
@@ -88,8 +111,8 @@ pairOf tenant line = suc (4 * tenant + line)
 -- MCC and MNC 0 to 999, local IP version 4 or 6, place one of three, a flag 0 or 1; a number that a call does not have is 0
 unfoldable pub startNumbersFit : StartNumbers → Bool
 startNumbersFit g =
-    leb (g .place) 2 && leb (g .mcc) 999 && (eqb (g .place) 2 || eqb (g .mcc) 0)
-    && leb (g .registered) 1 && leb (g .registeredMcc) 999 && leb (g .registeredMnc) 999
+    leb (g .place) 2 && leb (g .mcc) mostCode && (eqb (g .place) 2 || eqb (g .mcc) 0)
+    && leb (g .registered) 1 && leb (g .registeredMcc) mostCode && leb (g .registeredMnc) mostCode
     && (eqb (g .registered) 1 || eqb (g .registeredMcc) 0 && eqb (g .registeredMnc) 0)
     && (eqb (g .version) 4 || eqb (g .version) 6)
 
