@@ -32,6 +32,10 @@ addressIn h = h .address
 abbrev pub heldAddresses : List Hold → List Address
 heldAddresses hs = map addressIn hs
 
+-- how many holds a line has at most
+abbrev pub mostHolds : ℕ
+mostHolds = 8
+
 -- an address of the local IP version that is not on hold
 unfoldable pub permitted : ℕ → List Address → Address → Bool
 permitted version held a = eqb (versionOf a) version && not (stands a held)

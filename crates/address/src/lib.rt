@@ -2,7 +2,7 @@
 ghost use mathlib.Core.Path.{_≡_};
 ghost use Prim.Native.Nat.{_≤_};
 ghost use lib.ListN.{drop, take};
-ghost use Rattle.address.specs.Address.{heldAddresses, permitted, sameAddress, stands, versionOf};
+ghost use Rattle.address.specs.Address.{heldAddresses, mostHolds, permitted, sameAddress, stands, versionOf};
 
 // An address: 32 bits of version 4, or the two halves of 128 bits of version 6.
 pub enum Address {
@@ -53,7 +53,7 @@ pub fn same_address(a: Address, b: Address) -> bool
 
 // Whether an address stands among the first n holds, from a place on.
 pub fn is_held(holds: [Hold; HOLDS], from: usize, n: usize, a: Address) -> bool
-    requires { ⌜ (from ≤ n) × (n ≤ 8) ⌝ }
+    requires { ⌜ (from ≤ n) × (n ≤ mostHolds) ⌝ }
     ensures { λ r. ⌜ r ≡ stands a (drop from (heldAddresses (take n holds))) ⌝ }
 {
     let mut i = from;
@@ -70,7 +70,7 @@ pub fn is_held(holds: [Hold; HOLDS], from: usize, n: usize, a: Address) -> bool
 
 // Whether an address has the local IP version and is not on hold.
 pub fn is_permitted(a: Address, local: u64, holds: [Hold; HOLDS], n: usize) -> bool
-    requires { ⌜ n ≤ 8 ⌝ }
+    requires { ⌜ n ≤ mostHolds ⌝ }
     ensures { λ r. ⌜ r ≡ permitted local (heldAddresses (take n holds)) a ⌝ }
 {
     if version(a) != local {

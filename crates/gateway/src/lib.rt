@@ -8,7 +8,7 @@ ghost use mathlib.Core.List.{[], _∷_};
 ghost use mathlib.Core.Path.{_≡_};
 ghost use Prim.Native.Nat.{_≤_};
 ghost use lib.ListN.{take};
-ghost use Rattle.address.specs.Address.{heldAddresses};
+ghost use Rattle.address.specs.Address.{heldAddresses, mostHolds};
 ghost use Rattle.lists.specs.Lists.{addressesIn};
 ghost use Rattle.gateway.specs.Gateway.{choose};
 
@@ -22,7 +22,7 @@ pub enum Found {
 
 // Chooses from a list of addresses.
 pub fn choose(list: &[u8], local: u64, holds: [Hold; HOLDS], n: usize) -> Found
-    requires { ⌜ n ≤ 8 ⌝ }
+    requires { ⌜ n ≤ mostHolds ⌝ }
     ensures { λ r. ⌜ r ≡ choose local (heldAddresses (take n holds)) (addressesIn (now (list .entry))) ⌝ }
 {
     let count = list.len() / 17;
@@ -39,7 +39,7 @@ pub fn choose(list: &[u8], local: u64, holds: [Hold; HOLDS], n: usize) -> Found
 
 // Chooses from a list of one address.
 pub fn choose_one(a: Address, local: u64, holds: [Hold; HOLDS], n: usize) -> Found
-    requires { ⌜ n ≤ 8 ⌝ }
+    requires { ⌜ n ≤ mostHolds ⌝ }
     ensures { λ r. ⌜ r ≡ choose local (heldAddresses (take n holds)) (a ∷ []) ⌝ }
 {
     if is_permitted(a, local, holds, n) {

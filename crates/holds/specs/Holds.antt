@@ -1,4 +1,4 @@
--- A hold in 22 octets: its address, and its end in 5 octets, of which zero says that it has none. A line has room for 8.
+-- A hold in octets: its address, and its end in 5 octets, of which zero says that it has none.
 use Prim.Native.Nat.{ℕ, _+_, _-_, _*_}
 use mathlib.Core.Bool.{Bool, true, cond, _&&_}
 use mathlib.Core.List.{List, _++_}
@@ -7,12 +7,19 @@ use Rattle.octets.specs.Digits.{be, field}
 use Rattle.octets.specs.Part.{padded, zerosAt}
 use Rattle.octets.specs.Row.{joined, row}
 use Rattle.octets.specs.Search.{all, distinct}
-use Rattle.address.specs.Address.{sameAddress}
+use Rattle.address.specs.Address.{mostHolds, sameAddress}
 use Rattle.address.specs.declared.Address.{Address}
 use Rattle.address.specs.declared.End.{End}
 use Rattle.address.specs.declared.End.the-variants.{At, Never}
 use Rattle.address.specs.declared.Hold.{Hold}
 use Rattle.addresses.specs.Addresses.{addressOctets, addressFrom, isAddress}
+
+-- the octets of a hold, and the room for all the holds that a line may have
+abbrev pub holdLength : ℕ
+holdLength = 22
+
+abbrev pub holdsRoom : ℕ
+holdsRoom = mostHolds * holdLength
 
 unfoldable pub endNumber : End → ℕ
 endNumber (At t) = t
@@ -22,7 +29,7 @@ unfoldable pub holdOctets : Hold → List ℕ
 holdOctets h = addressOctets (h .address) ++ be 5 (endNumber (h .end))
 
 unfoldable pub holdsOctets : List Hold → List ℕ
-holdsOctets hs = padded 176 (joined holdOctets hs)
+holdsOctets hs = padded holdsRoom (joined holdOctets hs)
 
 -- the hold at a place
 unfoldable pub endOf : ℕ → End
@@ -33,17 +40,17 @@ holdFrom l at = record { address = addressFrom l at; end = endOf (field l (at + 
 
 -- the hold with a number among those that begin at a place
 unfoldable pub holdIn : List ℕ → ℕ → ℕ → Hold
-holdIn l at i = holdFrom l (at + 22 * i)
+holdIn l at i = holdFrom l (at + holdLength * i)
 
 unfoldable pub holdsFrom : List ℕ → ℕ → ℕ → List Hold
 holdsFrom l at n = row (holdIn l at) 0 n
 
--- at most 8 holds, each with an address that there is, and zeros in the places behind them
+-- so many holds at most, each with an address that there is, and zeros in the places behind them
 unfoldable pub hasAddress : List ℕ → ℕ → ℕ → Bool
-hasAddress l at i = isAddress l (at + 22 * i)
+hasAddress l at i = isAddress l (at + holdLength * i)
 
 unfoldable pub holdsWritten : List ℕ → ℕ → ℕ → Bool
-holdsWritten l at n = leb n 8 && all n (hasAddress l at) && zerosAt l (at + 22 * n) (176 - 22 * n)
+holdsWritten l at n = leb n mostHolds && all n (hasAddress l at) && zerosAt l (at + holdLength * n) (holdsRoom - holdLength * n)
 
 -- holds for different addresses
 unfoldable pub different : List Address → Bool

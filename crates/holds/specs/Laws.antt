@@ -8,11 +8,12 @@ use lib.ListN.{length}
 use Rattle.octets.specs.Laws.{below}
 use Rattle.octets.specs.Part.{part}
 use Rattle.octets.specs.Search.{allOf}
+use Rattle.address.specs.Address.{mostHolds}
 use Rattle.address.specs.declared.End.{End}
 use Rattle.address.specs.declared.End.the-variants.{At, Never}
 use Rattle.address.specs.declared.Hold.{Hold}
 use Rattle.addresses.specs.Laws.{addressStorable}
-use Rattle.holds.specs.Holds.{holdsFrom, holdsOctets, holdsWritten}
+use Rattle.holds.specs.Holds.{holdLength, holdsFrom, holdsOctets, holdsRoom, holdsWritten}
 
 -- an end that is not the number of none and fits 5 octets
 unfoldable pub endStorable : End → Bool
@@ -24,13 +25,13 @@ unfoldable pub holdStorable : Hold → Bool
 holdStorable h = addressStorable (h .address) && endStorable (h .end)
 
 pub record Laws : Type 0 where
-  -- at most 8 holds have 176 octets with the zeros behind them
-  pub octet-count : (hs : List Hold) → length hs ≤ 8 → length (holdsOctets hs) ≡ 176
-  -- at most 8 holds in range are read back from their octets
-  pub read-back : (l : List ℕ) (at : ℕ) (hs : List Hold) → length hs ≤ 8 → allOf holdStorable hs ≡ true → part l at 176 ≡ holdsOctets hs
+  -- so many holds have their room with the zeros behind them
+  pub octet-count : (hs : List Hold) → length hs ≤ mostHolds → length (holdsOctets hs) ≡ holdsRoom
+  -- so many holds in range are read back from their octets
+  pub read-back : (l : List ℕ) (at : ℕ) (hs : List Hold) → length hs ≤ mostHolds → allOf holdStorable hs ≡ true → part l at holdsRoom ≡ holdsOctets hs
       → (holdsFrom l at (length hs) ≡ hs) × (holdsWritten l at (length hs) ≡ true)
   -- holds are written back as the octets that they were read from
-  pub write-back : (l : List ℕ) (at n : ℕ) → allOf (below 256) l ≡ true → at + 176 ≤ length l → holdsWritten l at n ≡ true
-      → part l at 176 ≡ holdsOctets (holdsFrom l at n)
+  pub write-back : (l : List ℕ) (at n : ℕ) → allOf (below 256) l ≡ true → at + holdsRoom ≤ length l → holdsWritten l at n ≡ true
+      → part l at holdsRoom ≡ holdsOctets (holdsFrom l at n)
   -- holds that are read from octets are in range
-  pub storable : (l : List ℕ) (at n : ℕ) → allOf (below 256) l ≡ true → at + 22 * n ≤ length l → allOf holdStorable (holdsFrom l at n) ≡ true
+  pub storable : (l : List ℕ) (at n : ℕ) → allOf (below 256) l ≡ true → at + holdLength * n ≤ length l → allOf holdStorable (holdsFrom l at n) ≡ true

@@ -16,9 +16,15 @@ ghost use lib.ListN.{length, take};
 ghost use Rattle.octets.specs.Part.{Wrote};
 ghost use Rattle.octets.specs.Row.{joined};
 ghost use Rattle.octets.specs.Search.{allOf};
-ghost use Rattle.address.specs.Address.{heldAddresses};
-ghost use Rattle.holds.specs.Holds.{different, endAfter, endNumber, endOf, endsAfter, holdFrom, holdOctets, holdsFrom, holdsWritten};
+ghost use Rattle.address.specs.Address.{heldAddresses, mostHolds};
+ghost use Rattle.holds.specs.Holds.{different, endAfter, endNumber, endOf, endsAfter, holdFrom, holdLength, holdOctets, holdsFrom, holdsRoom, holdsWritten};
 ghost use Rattle.holds.specs.Laws.{Laws};
+
+// The octets of a hold.
+const LENGTH: usize = 22;
+
+// The octets of all the holds that a line has room for.
+pub const HOLDS_ROOM: usize = HOLDS * LENGTH;
 
 // The end of a hold as a number.
 fn end_number(end: End) -> u64
@@ -42,7 +48,7 @@ fn end_of(number: u64) -> End
 
 // The hold at a place.
 fn read_hold(b: &[u8], at: usize) -> Hold
-    requires { ⌜ at + 22 ≤ length (now b) ⌝ }
+    requires { ⌜ at + holdLength ≤ length (now b) ⌝ }
     ensures { λ r. ⌜ r ≡ holdFrom (now (b .entry)) at ⌝ }
 {
     let address = read_address(b, at);
@@ -52,7 +58,7 @@ fn read_hold(b: &[u8], at: usize) -> Hold
 
 // Stores a hold at a place.
 fn put_hold(b: &mut [u8], at: usize, hold: Hold)
-    requires { ⌜ at + 22 ≤ length (now b) ⌝ }
+    requires { ⌜ at + holdLength ≤ length (now b) ⌝ }
     ensures { λ _. ⌜ Wrote (now (b .entry)) at (holdOctets hold) (now (b .exit)) ⌝ }
 {
     let address = hold.address;
@@ -63,7 +69,7 @@ fn put_hold(b: &mut [u8], at: usize, hold: Hold)
 
 // The first n holds of those that begin at a place.
 pub fn read_holds(b: &[u8], at: usize, n: usize) -> [Hold; HOLDS]
-    requires { ⌜ (at + 176 ≤ length (now b)) × (n ≤ 8) ⌝ }
+    requires { ⌜ (at + holdsRoom ≤ length (now b)) × (n ≤ mostHolds) ⌝ }
     ensures { λ r. ⌜ take n r ≡ holdsFrom (now (b .entry)) at n ⌝ }
 {
     let mut list = [Hold {
@@ -72,7 +78,7 @@ pub fn read_holds(b: &[u8], at: usize, n: usize) -> [Hold; HOLDS]
     }; HOLDS];
     let mut i = 0;
     while i < n {
-        list[i] = read_hold(b, at + 22 * i);
+        list[i] = read_hold(b, at + LENGTH * i);
         i += 1;
     }
     list
@@ -80,21 +86,21 @@ pub fn read_holds(b: &[u8], at: usize, n: usize) -> [Hold; HOLDS]
 
 // Stores the first n holds of a list from a place on.
 pub fn put_holds(b: &mut [u8], at: usize, list: [Hold; HOLDS], n: usize)
-    requires { ⌜ (at + 176 ≤ length (now b)) × (n ≤ 8) ⌝ }
+    requires { ⌜ (at + holdsRoom ≤ length (now b)) × (n ≤ mostHolds) ⌝ }
     ensures { λ _. ⌜ Wrote (now (b .entry)) at (joined holdOctets (take n list)) (now (b .exit)) ⌝ }
     ensures { λ _. ⌜ length (take n list) ≡ n ⌝ }
 {
     let mut i = 0;
     while i < n {
         let hold = list[i];
-        put_hold(b, at + 22 * i, hold);
+        put_hold(b, at + LENGTH * i, hold);
         i += 1;
     }
 }
 
 // Whether at most 8 holds stand at a place, each with an address, and zeros behind them.
 pub fn are_written(b: &[u8], at: usize, n: usize) -> bool
-    requires { ⌜ at + 176 ≤ length (now b) ⌝ }
+    requires { ⌜ at + holdsRoom ≤ length (now b) ⌝ }
     ensures { λ r. ⌜ r ≡ holdsWritten (now (b .entry)) at n ⌝ }
 {
     if HOLDS < n {
@@ -102,17 +108,17 @@ pub fn are_written(b: &[u8], at: usize, n: usize) -> bool
     }
     let mut i = 0;
     while i < n {
-        if !is_address(b, at + 22 * i) {
+        if !is_address(b, at + LENGTH * i) {
             return false;
         }
         i += 1;
     }
-    zeros_at(b, at + 22 * n, 176 - 22 * n)
+    zeros_at(b, at + LENGTH * n, HOLDS_ROOM - LENGTH * n)
 }
 
 // Whether the first n holds are for different addresses.
 pub fn are_different(list: [Hold; HOLDS], n: usize) -> bool
-    requires { ⌜ n ≤ 8 ⌝ }
+    requires { ⌜ n ≤ mostHolds ⌝ }
     ensures { λ r. ⌜ r ≡ different (heldAddresses (take n list)) ⌝ }
 {
     let mut i = 0;
@@ -139,7 +145,7 @@ fn ends_after(end: End, time: u64) -> bool
 
 // Whether each of the first n holds ends after a time.
 pub fn all_end_after(list: [Hold; HOLDS], n: usize, time: u64) -> bool
-    requires { ⌜ n ≤ 8 ⌝ }
+    requires { ⌜ n ≤ mostHolds ⌝ }
     ensures { λ r. ⌜ r ≡ allOf (endsAfter time) (take n list) ⌝ }
 {
     let mut i = 0;

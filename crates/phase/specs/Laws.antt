@@ -9,7 +9,7 @@ use Rattle.octets.specs.Laws.{below}
 use Rattle.octets.specs.Part.{part}
 use Rattle.octets.specs.Search.{allOf}
 use Rattle.addresses.specs.Laws.{addressStorable}
-use Rattle.phase.specs.Phase.{phaseFits, phaseFrom, phaseOctets, phaseWritten}
+use Rattle.phase.specs.Phase.{phaseFits, phaseFrom, phaseLength, phaseOctets, phaseWritten}
 use Rattle.phase.specs.declared.Phase.{Phase}
 use Rattle.phase.specs.declared.Phase.the-variants.{Idle, Country, Name, Chosen, Init, Auth, Eap, Sure, Live}
 use Rattle.phase.specs.declared.Turn.{Turn}
@@ -34,13 +34,13 @@ phaseStorable (Sure a) = addressStorable a
 phaseStorable (Live a) = addressStorable a
 
 pub record Laws : Type 0 where
-  -- a phase has 20 octets
-  pub octet-count : (p : Phase) → length (phaseOctets p) ≡ 20
+  -- every phase has the same count of octets
+  pub octet-count : (p : Phase) → length (phaseOctets p) ≡ phaseLength
   -- a phase in range is read back from its octets
-  pub read-back : (l : List ℕ) (at : ℕ) (p : Phase) → phaseFits p ≡ true → phaseStorable p ≡ true → part l at 20 ≡ phaseOctets p
+  pub read-back : (l : List ℕ) (at : ℕ) (p : Phase) → phaseFits p ≡ true → phaseStorable p ≡ true → part l at phaseLength ≡ phaseOctets p
       → (phaseFrom l at ≡ p) × (phaseWritten l at ≡ true)
   -- a phase is written back as the octets that it was read from
-  pub write-back : (l : List ℕ) (at : ℕ) → allOf (below 256) l ≡ true → at + 20 ≤ length l → phaseWritten l at ≡ true
-      → part l at 20 ≡ phaseOctets (phaseFrom l at)
+  pub write-back : (l : List ℕ) (at : ℕ) → allOf (below 256) l ≡ true → at + phaseLength ≤ length l → phaseWritten l at ≡ true
+      → part l at phaseLength ≡ phaseOctets (phaseFrom l at)
   -- a phase that is read from octets has an address and an identifier that fit theirs
-  pub storable : (l : List ℕ) (at : ℕ) → allOf (below 256) l ≡ true → at + 20 ≤ length l → phaseStorable (phaseFrom l at) ≡ true
+  pub storable : (l : List ℕ) (at : ℕ) → allOf (below 256) l ≡ true → at + phaseLength ≤ length l → phaseStorable (phaseFrom l at) ≡ true

@@ -1,4 +1,4 @@
--- A phase in 20 octets: its number, and 19 octets of its own data with zeros behind them.
+-- A phase in octets: its number, and its own data with zeros behind them.
 use Prim.Native.Nat.{ℕ, _+_}
 use mathlib.Core.Bool.{Bool, true, false, cond, _&&_}
 use mathlib.Core.List.{List, _++_}
@@ -18,6 +18,10 @@ use Rattle.phase.specs.declared.Phase.the-variants.{Idle, Country, Name,
 use Rattle.phase.specs.declared.Turn.{Turn}
 use Rattle.phase.specs.declared.Turn.the-variants.{First, Owed, Answered}
 
+-- the octets of a phase
+abbrev pub phaseLength : ℕ
+phaseLength = 20
+
 -- the place facts while DNS runs
 unfoldable pub askingOctets : ℕ → Facts → List ℕ
 askingOctets n f = be 1 n ++ factsOctets f ++ zeros 10
@@ -33,7 +37,7 @@ turnOctets (Owed i) = be 1 2 ++ be 1 i
 turnOctets (Answered i) = be 1 3 ++ be 1 i
 
 unfoldable pub phaseOctets : Phase → List ℕ
-phaseOctets Idle = zeros 20
+phaseOctets Idle = zeros phaseLength
 phaseOctets (Country f) = askingOctets (stageNumber Stage.country) f
 phaseOctets (Name f) = askingOctets (stageNumber Stage.name) f
 phaseOctets (Chosen a) = havingOctets (stageNumber Stage.chosen) a

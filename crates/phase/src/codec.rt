@@ -28,7 +28,7 @@ ghost use Prim.Native.Nat.{_+_, _≤_};
 ghost use lib.ListN.{length};
 ghost use Rattle.octets.specs.Part.{Wrote};
 ghost use Rattle.phase.specs.Branch.{havingFrom, isAsking, isCountry, isHaving, isEap};
-ghost use Rattle.phase.specs.Phase.{askingOctets, havingOctets, isAbroad, isPhase, phaseFrom, phaseOctets, turnFrom, turnOctets, turnWritten};
+ghost use Rattle.phase.specs.Phase.{askingOctets, havingOctets, isAbroad, isPhase, phaseFrom, phaseLength, phaseOctets, turnFrom, turnOctets, turnWritten};
 
 // How far an EAP session is, from 2 octets.
 fn read_turn(list: &[u8], at: usize) -> Turn
@@ -69,7 +69,7 @@ fn put_turn(list: &mut [u8], at: usize, turn: Turn)
 
 // A phase that keeps an address, by its number.
 fn read_having(list: &[u8], at: usize, number: u64) -> Phase
-    requires { ⌜ at + 20 ≤ length (now list) ⌝ }
+    requires { ⌜ at + phaseLength ≤ length (now list) ⌝ }
     ensures { λ r. ⌜ r ≡ havingFrom (now (list .entry)) at number ⌝ }
 {
     let address = read_address(list, at + 1);
@@ -93,7 +93,7 @@ fn read_having(list: &[u8], at: usize, number: u64) -> Phase
 
 // A phase with its own data, from 20 octets.
 pub fn read_phase(list: &[u8], at: usize) -> Phase
-    requires { ⌜ at + 20 ≤ length (now list) ⌝ }
+    requires { ⌜ at + phaseLength ≤ length (now list) ⌝ }
     ensures { λ r. ⌜ r ≡ phaseFrom (now (list .entry)) at ⌝ }
 {
     let number = get(list, at, 1);
@@ -111,7 +111,7 @@ pub fn read_phase(list: &[u8], at: usize) -> Phase
 
 // Stores a phase that keeps place facts.
 fn put_asking(list: &mut [u8], at: usize, number: u64, facts: Facts)
-    requires { ⌜ at + 20 ≤ length (now list) ⌝ }
+    requires { ⌜ at + phaseLength ≤ length (now list) ⌝ }
     ensures { λ _. ⌜ Wrote (now (list .entry)) at (askingOctets number facts) (now (list .exit)) ⌝ }
 {
     put(list, at, 1, number);
@@ -121,7 +121,7 @@ fn put_asking(list: &mut [u8], at: usize, number: u64, facts: Facts)
 
 // Stores a phase that keeps an address alone.
 fn put_having(list: &mut [u8], at: usize, number: u64, address: Address)
-    requires { ⌜ at + 20 ≤ length (now list) ⌝ }
+    requires { ⌜ at + phaseLength ≤ length (now list) ⌝ }
     ensures { λ _. ⌜ Wrote (now (list .entry)) at (havingOctets number address) (now (list .exit)) ⌝ }
 {
     put(list, at, 1, number);
@@ -131,7 +131,7 @@ fn put_having(list: &mut [u8], at: usize, number: u64, address: Address)
 
 // Stores a phase with its own data in 20 octets.
 pub fn put_phase(list: &mut [u8], at: usize, phase: Phase)
-    requires { ⌜ at + 20 ≤ length (now list) ⌝ }
+    requires { ⌜ at + phaseLength ≤ length (now list) ⌝ }
     ensures { λ _. ⌜ Wrote (now (list .entry)) at (phaseOctets phase) (now (list .exit)) ⌝ }
 {
     match phase {
@@ -176,7 +176,7 @@ fn is_abroad(place: Place) -> bool
 
 // Whether place facts and zeros stand behind the number of a phase.
 fn is_asking(list: &[u8], at: usize) -> bool
-    requires { ⌜ at + 20 ≤ length (now list) ⌝ }
+    requires { ⌜ at + phaseLength ≤ length (now list) ⌝ }
     ensures { λ r. ⌜ r ≡ isAsking (now (list .entry)) at ⌝ }
 {
     if !is_facts(list, at + 1) {
@@ -187,7 +187,7 @@ fn is_asking(list: &[u8], at: usize) -> bool
 
 // Whether place facts abroad and zeros stand behind the number of a phase.
 fn is_country(list: &[u8], at: usize) -> bool
-    requires { ⌜ at + 20 ≤ length (now list) ⌝ }
+    requires { ⌜ at + phaseLength ≤ length (now list) ⌝ }
     ensures { λ r. ⌜ r ≡ isCountry (now (list .entry)) at ⌝ }
 {
     if !is_asking(list, at) {
@@ -198,7 +198,7 @@ fn is_country(list: &[u8], at: usize) -> bool
 
 // Whether an address and zeros stand behind the number of a phase.
 fn is_having(list: &[u8], at: usize) -> bool
-    requires { ⌜ at + 20 ≤ length (now list) ⌝ }
+    requires { ⌜ at + phaseLength ≤ length (now list) ⌝ }
     ensures { λ r. ⌜ r ≡ isHaving (now (list .entry)) at ⌝ }
 {
     if !is_address(list, at + 1) {
@@ -209,7 +209,7 @@ fn is_having(list: &[u8], at: usize) -> bool
 
 // Whether an address and an identifier stand behind the number of a phase.
 fn is_eap(list: &[u8], at: usize) -> bool
-    requires { ⌜ at + 20 ≤ length (now list) ⌝ }
+    requires { ⌜ at + phaseLength ≤ length (now list) ⌝ }
     ensures { λ r. ⌜ r ≡ isEap (now (list .entry)) at ⌝ }
 {
     if !is_address(list, at + 1) {
@@ -220,7 +220,7 @@ fn is_eap(list: &[u8], at: usize) -> bool
 
 // Whether a phase with its own data stands in 20 octets.
 pub fn is_phase(list: &[u8], at: usize) -> bool
-    requires { ⌜ at + 20 ≤ length (now list) ⌝ }
+    requires { ⌜ at + phaseLength ≤ length (now list) ⌝ }
     ensures { λ r. ⌜ r ≡ isPhase (now (list .entry)) at ⌝ }
 {
     let number = get(list, at, 1);

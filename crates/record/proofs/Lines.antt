@@ -11,10 +11,10 @@ use Rattle.holds.specs.Holds.{holdsFrom}
 use Rattle.phase.specs.Phase.{phaseFrom}
 use Rattle.phase.specs.declared.Phase.{Phase}
 use Rattle.record.specs.Line.{Line}
-use Rattle.record.specs.Octets.{lineFrom}
+use Rattle.record.specs.Octets.{lineFrom, childrenPlace}
 
 module _ (l : List ℕ) {t m n : ℕ} {p : Phase} {hs : List Hold} {cs : List Child} where
-  pub line-read : t ≡ field l 1 4 → p ≡ phaseFrom l 5 → m ≡ field l 25 1 → n ≡ field l 26 1 → hs ≡ holdsFrom l 27 m → cs ≡ childrenFrom l 203 n
+  pub line-read : t ≡ field l 1 4 → p ≡ phaseFrom l 5 → m ≡ field l 25 1 → n ≡ field l 26 1 → hs ≡ holdsFrom l 27 m → cs ≡ childrenFrom l childrenPlace n
       → _≡_ {A = Line} (record { time = t; phase = p; holds = hs; children = cs }) (lineFrom l)
   unfolding lineFrom
   line-read e₁ e₂ e₃ e₄ e₅ e₆ = rw (e₁, e₂, e₅, e₆, e₃, e₄)

@@ -20,7 +20,7 @@ use Rattle.address.specs.Address.{addressIn}
 use Rattle.children.specs.Children.{childFits, childIn, childrenFrom, childrenOctets, childrenWritten, spisDiffer}
 use Rattle.children.specs.Laws.{childStorable}
 use Rattle.children.proofs.RoundTrip as Children
-use Rattle.holds.specs.Holds.{different, endsAfter, holdIn, holdsFrom, holdsOctets, holdsWritten}
+use Rattle.holds.specs.Holds.{different, endsAfter, holdIn, holdsFrom, holdsOctets, holdsWritten, holdsRoom}
 use Rattle.holds.specs.Laws.{holdStorable}
 use Rattle.holds.proofs.RoundTrip as Holds
 use Rattle.phase.specs.Laws.{phaseStorable}
@@ -32,7 +32,7 @@ use Rattle.phase.specs.Stage.{isIn}
 use Rattle.phase.specs.Stage as Stage
 use Rattle.record.specs.Laws.{lineStorable}
 use Rattle.record.specs.Line.{Line}
-use Rattle.record.specs.Octets.{lineFrom, recordOctets}
+use Rattle.record.specs.Octets.{lineFrom, recordOctets, recordLength, childrenPlace}
 use Rattle.record.specs.Sound.{childrenSound, chosen, holdsSound, inRange, chosenFree, isRecord, lineSound, lineWritten}
 use Rattle.record.proofs.Lines.{line-read}
 use Rattle.record.proofs.Sounds.{child-count, hold-count, record-line, record-lists}
@@ -120,16 +120,16 @@ module _ (pair : ℕ) (x : Line) where
   child-count-back : length (x .children) ≤ 8 → field l 26 1 ≡ length (x .children)
   child-count-back few = says 1 (length (x .children)) (omega arith) (behind (H ++ M) N 26 (first-count pair (x .time) (x .phase) (x .holds)) up-to-counts)
 
-  holds-part : length (x .holds) ≤ 8 → part l 27 176 ≡ holdsOctets (x .holds)
+  holds-part : length (x .holds) ≤ 8 → part l 27 holdsRoom ≡ holdsOctets (x .holds)
   holds-part few =
-      to-part (holdsOctets (x .holds)) 176 (Holds.octet-count (x .holds) few)
+      to-part (holdsOctets (x .holds)) holdsRoom (Holds.octet-count (x .holds) few)
       (behind (H ++ M ++ N) (holdsOctets (x .holds)) 27 (counted-length pair (x .time) (x .phase) (x .holds) (x .children)) up-to-holds)
 
-  children-part : length (x .holds) ≤ 8 → length (x .children) ≤ 8 → part l 203 40 ≡ childrenOctets (x .children)
+  children-part : length (x .holds) ≤ 8 → length (x .children) ≤ 8 → part l childrenPlace 40 ≡ childrenOctets (x .children)
   unfolding recordOctets
   children-part few-h few-c =
       to-part (childrenOctets (x .children)) 40 (Children.octet-count (x .children) few-c)
-      (behind (H ++ M ++ N ++ holdsOctets (x .holds)) (childrenOctets (x .children)) 203 (held-length pair (x .time) (x .phase) (x .holds) (x .children) few-h) (whole l))
+      (behind (H ++ M ++ N ++ holdsOctets (x .holds)) (childrenOctets (x .children)) childrenPlace (held-length pair (x .time) (x .phase) (x .holds) (x .children) few-h) (whole l))
 
   -- a sound line whose parts fit their octets
   module _ (sound : lineSound x ≡ true) (fits : lineStorable x ≡ true) where
@@ -154,11 +154,11 @@ module _ (pair : ℕ) (x : Line) where
         let few = few-holds x sound in
         Holds.read-back l 27 (x .holds) few (and-right (small && phaseStorable (x .phase)) (allOf holdStorable (x .holds)) lists-storable) (holds-part few)
 
-    children-back : (childrenFrom l 203 (length (x .children)) ≡ x .children) × (childrenWritten l 203 (length (x .children)) ≡ true)
+    children-back : (childrenFrom l childrenPlace (length (x .children)) ≡ x .children) × (childrenWritten l childrenPlace (length (x .children)) ≡ true)
     unfolding lineStorable
     children-back =
         let few = few-children x sound in
-        Children.read-back l 203 (x .children) few (and-right lists (allOf childStorable (x .children)) fits) (children-part (few-holds x sound) few)
+        Children.read-back l childrenPlace (x .children) few (and-right lists (allOf childStorable (x .children)) fits) (children-part (few-holds x sound) few)
 
     line-back : lineFrom l ≡ x
     line-back =
@@ -181,14 +181,14 @@ pub sound-back : (pair : ℕ) (x : Line) → 1 ≤ pair → pair ≤ 64 → line
 sound-back pair x low high sound fits = record-back pair x sound fits low high
 
 -- the octets of a sound record
-module _ (m : List ℕ) (octets : allOf (below 256) m ≡ true) (size : length m ≡ 243) (sound : isRecord m ≡ true) where
+module _ (m : List ℕ) (octets : allOf (below 256) m ≡ true) (size : length m ≡ recordLength) (sound : isRecord m ≡ true) where
   holds-number : length (holdsFrom m 27 (field m 25 1)) ≡ field m 25 1
   unfolding holdsFrom
   holds-number = length-row (holdIn m 27) 0 (field m 25 1)
 
-  children-number : length (childrenFrom m 203 (field m 26 1)) ≡ field m 26 1
+  children-number : length (childrenFrom m childrenPlace (field m 26 1)) ≡ field m 26 1
   unfolding childrenFrom
-  children-number = length-row (childIn m 203) 0 (field m 26 1)
+  children-number = length-row (childIn m childrenPlace) 0 (field m 26 1)
 
   -- the octets of the phase, of the holds and of the children are as they are written
   abbrev P : Bool
@@ -198,7 +198,7 @@ module _ (m : List ℕ) (octets : allOf (below 256) m ≡ true) (size : length m
   Q = holdsWritten m 27 (field m 25 1)
 
   abbrev R : Bool
-  R = childrenWritten m 203 (field m 26 1)
+  R = childrenWritten m childrenPlace (field m 26 1)
 
   parts-written : P && Q && R ≡ true
   unfolding lineWritten
@@ -209,7 +209,7 @@ module _ (m : List ℕ) (octets : allOf (below 256) m ≡ true) (size : length m
       follow m 0 5 20 (follow m 0 1 4 (number-back m octets 0 1 (field m 0 1) (omega arith) refl) (number-back m octets 1 4 (field m 1 4) (omega arith) refl))
       (sym (Writing.write-back m 5 octets (omega arith) (and-left P Q (and-left (P && Q) R parts-written))))
 
-  counted-octets : counted (field m 0 1) (field m 1 4) (phaseFrom m 5) (holdsFrom m 27 (field m 25 1)) (childrenFrom m 203 (field m 26 1)) ≡ part m 0 27
+  counted-octets : counted (field m 0 1) (field m 1 4) (phaseFrom m 5) (holdsFrom m 27 (field m 25 1)) (childrenFrom m childrenPlace (field m 26 1)) ≡ part m 0 27
   counted-octets =
       follow m 0 26 1 (follow m 0 25 1 head-octets (number-back m octets 25 1 _ (omega arith) (sym holds-number)))
       (number-back m octets 26 1 _ (omega arith) (sym children-number))
@@ -217,8 +217,8 @@ module _ (m : List ℕ) (octets : allOf (below 256) m ≡ true) (size : length m
   pub write-back : recordOctets (field m 0 1) (lineFrom m) ≡ m
   unfolding recordOctets lineFrom
   write-back =
-      follow m 0 203 40 (follow m 0 27 176 counted-octets (sym (Holds.write-back m 27 (field m 25 1) octets (omega arith) (and-right P Q (and-left (P && Q) R parts-written)))))
-      (sym (Children.write-back m 203 (field m 26 1) octets (omega arith) (and-right (P && Q) R parts-written)))
+      follow m 0 childrenPlace 40 (follow m 0 27 holdsRoom counted-octets (sym (Holds.write-back m 27 (field m 25 1) octets (omega arith) (and-right P Q (and-left (P && Q) R parts-written)))))
+      (sym (Children.write-back m childrenPlace (field m 26 1) octets (omega arith) (and-right (P && Q) R parts-written)))
       ∙ ap (part m 0) (sym size) ∙ part-whole m
 
   pub storable : lineStorable (lineFrom m) ≡ true
@@ -226,7 +226,7 @@ module _ (m : List ℕ) (octets : allOf (below 256) m ≡ true) (size : length m
   storable =
       let few-h : field m 25 1 ≤ 8 = hold-count m (record-lists m sound) in
       let few-c : field m 26 1 ≤ 8 = child-count m (record-lists m sound) in
-      rw (lt-ltb (field m 1 4) (256 ^ 4) (field-below m octets 1 4 (omega arith)), Reading.storable m 5 octets (omega arith), Holds.storable m 27 (field m 25 1) octets (omega arith), Children.storable m 203 (field m 26 1) octets (omega arith))
+      rw (lt-ltb (field m 1 4) (256 ^ 4) (field-below m octets 1 4 (omega arith)), Reading.storable m 5 octets (omega arith), Holds.storable m 27 (field m 25 1) octets (omega arith), Children.storable m childrenPlace (field m 26 1) octets (omega arith))
 
 pub octets : (pair : ℕ) (x : Line) → allOf (below 256) (recordOctets pair x) ≡ true
 unfolding recordOctets

@@ -16,14 +16,14 @@ use Rattle.address.specs.Address.{addressIn}
 use Rattle.address.specs.declared.Hold.{Hold}
 use Rattle.children.specs.Children.{childFits, childrenWritten, spisDiffer}
 use Rattle.children.specs.declared.Child.{Child}
-use Rattle.holds.specs.Holds.{different, endsAfter, hasAddress, holdsWritten}
+use Rattle.holds.specs.Holds.{different, endsAfter, hasAddress, holdsWritten, holdsRoom}
 use Rattle.phase.specs.Phase.{isPhase, phaseFits, phaseFrom, phaseWritten}
 use Rattle.phase.specs.Stage.{isIn}
 use Rattle.phase.specs.Stage as Stage
 use Rattle.phase.specs.declared.Phase.{Phase}
 use Rattle.record.specs.Branch.{listsSound, listsWritten}
 use Rattle.record.specs.Line.{Line}
-use Rattle.record.specs.Octets.{lineFrom}
+use Rattle.record.specs.Octets.{lineFrom, childrenPlace}
 use Rattle.record.specs.Sound.{childrenSound, chosen, holdsSound, inRange, chosenFree, isRecord, lineSound, lineWritten}
 
 module _ (p : Phase) (cs : List Child) (n : ℕ) (size : length cs ≡ n) (few : n ≤ 8) where
@@ -86,7 +86,7 @@ module _ (l : List ℕ) where
   unfolding listsWritten
   holds-unwritten e = sym (rw e)
 
-  pub by-children : holdsWritten l 27 (field l 25 1) ≡ true → childrenWritten l 203 (field l 26 1) ≡ listsWritten l
+  pub by-children : holdsWritten l 27 (field l 25 1) ≡ true → childrenWritten l childrenPlace (field l 26 1) ≡ listsWritten l
   unfolding listsWritten
   by-children e = sym (rw e)
 
@@ -94,13 +94,13 @@ module _ (l : List ℕ) where
   unfolding listsWritten holdsWritten
   hold-count e =
       let n = field l 25 1 in
-      leb-true n 8 (and-left (leb n 8) (all n (hasAddress l 27)) (and-left (leb n 8 && all n (hasAddress l 27)) _ (and-left (leb n 8 && all n (hasAddress l 27) && zerosAt l (27 + 22 * n) (176 - 22 * n)) _ e)))
+      leb-true n 8 (and-left (leb n 8) (all n (hasAddress l 27)) (and-left (leb n 8 && all n (hasAddress l 27)) _ (and-left (leb n 8 && all n (hasAddress l 27) && zerosAt l (27 + 22 * n) (holdsRoom - 22 * n)) _ e)))
 
   pub child-count : listsWritten l ≡ true → field l 26 1 ≤ 8
   unfolding listsWritten childrenWritten
   child-count e =
       let n = field l 26 1 in
-      leb-true n 8 (and-left (leb n 8) _ (and-right (holdsWritten l 27 (field l 25 1)) (leb n 8 && zerosAt l (203 + 5 * n) (40 - 5 * n)) e))
+      leb-true n 8 (and-left (leb n 8) _ (and-right (holdsWritten l 27 (field l 25 1)) (leb n 8 && zerosAt l (childrenPlace + 5 * n) (40 - 5 * n)) e))
 
   pub no-pair : field l 0 1 < 1 → false ≡ isRecord l
   unfolding isRecord
@@ -165,6 +165,6 @@ pub record-lists : (l : List ℕ) → isRecord l ≡ true → listsWritten l ≡
 unfolding lineWritten listsWritten
 record-lists l e =
     let holds = holdsWritten l 27 (field l 25 1) in
-    let children = childrenWritten l 203 (field l 26 1) in
+    let children = childrenWritten l childrenPlace (field l 26 1) in
     let written : lineWritten l ≡ true = record-line l e in
     and-true holds children (and-right (phaseWritten l 5) holds (and-left (phaseWritten l 5 && holds) children written)) (and-right (phaseWritten l 5 && holds) children written)

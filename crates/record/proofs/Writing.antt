@@ -15,14 +15,14 @@ use Rattle.children.specs.Children.{childOctets, childrenOctets}
 use Rattle.children.specs.declared.Child.{Child}
 use Rattle.children.proofs.RoundTrip as Children
 use Rattle.children.proofs.Widths.{child-wide}
-use Rattle.holds.specs.Holds.{holdOctets, holdsOctets}
+use Rattle.holds.specs.Holds.{holdOctets, holdsOctets, holdsRoom}
 use Rattle.holds.proofs.RoundTrip as Holds
 use Rattle.holds.proofs.Widths.{hold-wide}
 use Rattle.phase.specs.Phase.{phaseOctets}
 use Rattle.phase.specs.declared.Phase.{Phase}
 use Rattle.phase.proofs.Writes.{phase-length}
 use Rattle.record.specs.Line.{Line}
-use Rattle.record.specs.Octets.{recordOctets}
+use Rattle.record.specs.Octets.{recordOctets, recordLength, childrenPlace}
 
 -- where the next write begins
 behind : {k : ℕ} (vs : List ℕ) → length vs ≡ k → k ≡ 0 + length vs
@@ -58,17 +58,17 @@ module _ (pair t : ℕ) (p : Phase) where
       unfolding be digits
       counted-length = both (head ++ be 1 (length hs)) (be 1 (length cs)) 26 1 first-count refl
 
-      pub held-length : length hs ≤ 8 → length (counted ++ holdsOctets hs) ≡ 203
-      held-length few = both counted (holdsOctets hs) 27 176 counted-length (Holds.octet-count hs few)
+      pub held-length : length hs ≤ 8 → length (counted ++ holdsOctets hs) ≡ childrenPlace
+      held-length few = both counted (holdsOctets hs) 27 holdsRoom counted-length (Holds.octet-count hs few)
 
-pub octet-count : (pair : ℕ) (x : Line) → length (x .holds) ≤ 8 → length (x .children) ≤ 8 → length (recordOctets pair x) ≡ 243
+pub octet-count : (pair : ℕ) (x : Line) → length (x .holds) ≤ 8 → length (x .children) ≤ 8 → length (recordOctets pair x) ≡ recordLength
 unfolding recordOctets
 octet-count pair x few-holds few-children =
     let front = counted pair (x .time) (x .phase) (x .holds) (x .children) ++ holdsOctets (x .holds) in
-    both front (childrenOctets (x .children)) 203 40 (held-length pair (x .time) (x .phase) (x .holds) (x .children) few-holds) (Children.octet-count (x .children) few-children)
+    both front (childrenOctets (x .children)) childrenPlace 40 (held-length pair (x .time) (x .phase) (x .holds) (x .children) few-holds) (Children.octet-count (x .children) few-children)
 
 module _ (pair t : ℕ) (p : Phase) (hs : List Hold) (cs : List Child) (few-holds : length hs ≤ 8) (few-children : length cs ≤ 8) where
-  holds-within : length (joined holdOctets hs) ≤ 176
+  holds-within : length (joined holdOctets hs) ≤ holdsRoom
   holds-within =
       let size : length (joined holdOctets hs) ≡ 22 * length hs = length-joined holdOctets 22 hold-wide hs in
       omega arith
@@ -84,25 +84,25 @@ module _ (pair t : ℕ) (p : Phase) (hs : List Hold) (cs : List Child) (few-hold
   start-length : length start ≡ 27
   start-length = counted-length pair t p hs cs
 
-  module _ {l₁ l₂ l₃ l₄ l₅ : List ℕ} (w₁ : Wrote (zeros 243) 0 (head pair t p) l₁) (w₂ : Wrote l₁ 25 (be 1 (length hs)) l₂) (w₃ : Wrote l₂ 26 (be 1 (length cs)) l₃)
-      (w₄ : Wrote l₃ 27 (joined holdOctets hs) l₄) (w₅ : Wrote l₄ 203 (joined childOctets cs) l₅) where
-    up-to-counts : Wrote (zeros 243) 0 start l₃
+  module _ {l₁ l₂ l₃ l₄ l₅ : List ℕ} (w₁ : Wrote (zeros recordLength) 0 (head pair t p) l₁) (w₂ : Wrote l₁ 25 (be 1 (length hs)) l₂) (w₃ : Wrote l₂ 26 (be 1 (length cs)) l₃)
+      (w₄ : Wrote l₃ 27 (joined holdOctets hs) l₄) (w₅ : Wrote l₄ childrenPlace (joined childOctets cs) l₅) where
+    up-to-counts : Wrote (zeros recordLength) 0 start l₃
     up-to-counts =
         then (then w₁ w₂ (behind (head pair t p) (head-length pair t p))) w₃ (behind (head pair t p ++ be 1 (length hs)) (first-count pair t p hs))
 
-    up-to-holds : Wrote (zeros 243) 0 (start ++ holdsOctets hs) l₄
+    up-to-holds : Wrote (zeros recordLength) 0 (start ++ holdsOctets hs) l₄
     unfolding holdsOctets padded
     up-to-holds =
         let size : length (start ++ joined holdOctets hs) ≡ 27 + length (joined holdOctets hs) = length-append start (joined holdOctets hs) ∙ ap (λ (k : ℕ). k + length (joined holdOctets hs)) start-length in
-        subst (λ (vs : List ℕ). Wrote (zeros 243) 0 vs l₄) (append-assoc start (joined holdOctets hs) (zeros (176 - length (joined holdOctets hs))))
-        (wrote-gap 243 (176 - length (joined holdOctets hs)) (start ++ joined holdOctets hs) l₄ (omega (arith, size, holds-within)) (then up-to-counts w₄ (behind start start-length)))
+        subst (λ (vs : List ℕ). Wrote (zeros recordLength) 0 vs l₄) (append-assoc start (joined holdOctets hs) (zeros (holdsRoom - length (joined holdOctets hs))))
+        (wrote-gap recordLength (holdsRoom - length (joined holdOctets hs)) (start ++ joined holdOctets hs) l₄ (omega (arith, size, holds-within)) (then up-to-counts w₄ (behind start start-length)))
 
     pub record-written : l₅ ≡ recordOctets pair (record { time = t; phase = p; holds = hs; children = cs })
     unfolding recordOctets childrenOctets padded
     record-written =
         let n = length (joined childOctets cs) in
-        let size : length (start ++ holdsOctets hs ++ joined childOctets cs) ≡ 203 + length (joined childOctets cs) =
+        let size : length (start ++ holdsOctets hs ++ joined childOctets cs) ≡ childrenPlace + length (joined childOctets cs) =
         length-append (start ++ holdsOctets hs) (joined childOctets cs) ∙ ap (λ (k : ℕ). k + length (joined childOctets cs)) (held-length pair t p hs cs few-holds) in
-        wrote-whole 243 (start ++ holdsOctets hs ++ padded 40 (joined childOctets cs)) l₅ (octet-count pair (record { time = t; phase = p; holds = hs; children = cs }) few-holds few-children)
-        (subst (λ (vs : List ℕ). Wrote (zeros 243) 0 vs l₅) (append-assoc (start ++ holdsOctets hs) (joined childOctets cs) (zeros (40 - n)))
-        (wrote-gap 243 (40 - n) (start ++ holdsOctets hs ++ joined childOctets cs) l₅ (omega (arith, size, children-within)) (then up-to-holds w₅ (behind (start ++ holdsOctets hs) (held-length pair t p hs cs few-holds)))))
+        wrote-whole recordLength (start ++ holdsOctets hs ++ padded 40 (joined childOctets cs)) l₅ (octet-count pair (record { time = t; phase = p; holds = hs; children = cs }) few-holds few-children)
+        (subst (λ (vs : List ℕ). Wrote (zeros recordLength) 0 vs l₅) (append-assoc (start ++ holdsOctets hs) (joined childOctets cs) (zeros (40 - n)))
+        (wrote-gap recordLength (40 - n) (start ++ holdsOctets hs ++ joined childOctets cs) l₅ (omega (arith, size, children-within)) (then up-to-holds w₅ (behind (start ++ holdsOctets hs) (held-length pair t p hs cs few-holds)))))

@@ -9,6 +9,7 @@ use Rattle.children.specs.Children.{childFits, childrenWritten}
 use Rattle.children.specs.declared.Child.{Child}
 use Rattle.holds.specs.Holds.{holdsWritten}
 use Rattle.phase.specs.declared.Phase.{Phase}
+use Rattle.record.specs.Octets.{childCountPlace, childrenPlace, holdCountPlace, holdsPlace}
 use Rattle.record.specs.Sound.{childrenSound, holdsSound}
 
 -- a line is sound, the range of its phase apart
@@ -17,4 +18,4 @@ listsSound time p hs cs = allOf childFits cs && childrenSound p cs && holdsSound
 
 -- what holds and children do not use is zero
 unfoldable pub listsWritten : List ℕ → Bool
-listsWritten l = holdsWritten l 27 (field l 25 1) && childrenWritten l 203 (field l 26 1)
+listsWritten l = holdsWritten l holdsPlace (field l holdCountPlace 1) && childrenWritten l childrenPlace (field l childCountPlace 1)

@@ -7,11 +7,11 @@ use lib.Dec.{leb}
 use lib.ListN.{length}
 use Rattle.octets.specs.Digits.{field}
 use Rattle.octets.specs.Search.{allOf}
-use Rattle.address.specs.Address.{heldAddresses, stands}
+use Rattle.address.specs.Address.{heldAddresses, mostHolds, stands}
 use Rattle.address.specs.declared.Address.{Address}
 use Rattle.address.specs.declared.Hold.{Hold}
 use Rattle.children.specs.declared.Child.{Child}
-use Rattle.children.specs.Children.{childFits, childrenWritten, spisDiffer}
+use Rattle.children.specs.Children.{childFits, childrenWritten, mostChildren, spisDiffer}
 use Rattle.holds.specs.Holds.{different, endsAfter, holdsWritten}
 use Rattle.phase.specs.Phase.{phaseFits, phaseWritten}
 use Rattle.phase.specs.Stage.{isIn}
@@ -19,7 +19,7 @@ use Rattle.phase.specs.Stage as Stage
 use Rattle.phase.specs.declared.Phase.{Phase}
 use Rattle.phase.specs.declared.Phase.the-variants.{Idle, Country, Name, Chosen, Init, Auth, Eap, Sure, Live}
 use Rattle.record.specs.Line.{Line}
-use Rattle.record.specs.Octets.{lineFrom}
+use Rattle.record.specs.Octets.{childCountPlace, childrenPlace, holdCountPlace, holdsPlace, lineFrom, phasePlace}
 
 -- the chosen address
 unfoldable pub chosen : Phase → Option Address
@@ -39,17 +39,21 @@ inRange p cs = phaseFits p && allOf childFits cs
 
 -- at most 8 child associations, only on a live line, with different SPIs
 unfoldable pub childrenSound : Phase → List Child → Bool
-childrenSound p cs = leb (length cs) 8 && (isIn Stage.live p || leb (length cs) 0) && spisDiffer cs
+childrenSound p cs = leb (length cs) mostChildren && (isIn Stage.live p || leb (length cs) 0) && spisDiffer cs
 
 -- none of the holds is the chosen one
 unfoldable pub chosenFree : Option Address → List Address → Bool
 chosenFree none held = true
 chosenFree (some a) held = not (stands a held)
 
+-- a line that is not idle has room for one hold more
+abbrev pub mostBusyHolds : ℕ
+mostBusyHolds = 7
+
 -- at most 8 holds, at most 7 unless the line is idle, for different addresses, none of them the chosen one, each ending after the last time
 unfoldable pub holdsSound : ℕ → Phase → List Hold → Bool
 holdsSound time p hs =
-    leb (length hs) 8 && (isIn Stage.idle p || leb (length hs) 7) && different (heldAddresses hs) && chosenFree (chosen p) (heldAddresses hs)
+    leb (length hs) mostHolds && (isIn Stage.idle p || leb (length hs) mostBusyHolds) && different (heldAddresses hs) && chosenFree (chosen p) (heldAddresses hs)
     && allOf (endsAfter time) hs
 
 unfoldable pub lineSound : Line → Bool
@@ -57,8 +61,11 @@ lineSound x = inRange (x .phase) (x .children) && childrenSound (x .phase) (x .c
 
 -- unused places zero
 unfoldable pub lineWritten : List ℕ → Bool
-lineWritten l = phaseWritten l 5 && holdsWritten l 27 (field l 25 1) && childrenWritten l 203 (field l 26 1)
+lineWritten l = phaseWritten l phasePlace && holdsWritten l holdsPlace (field l holdCountPlace 1) && childrenWritten l childrenPlace (field l childCountPlace 1)
 
 -- a record of one of the 64 pairs
+abbrev pub mostPairs : ℕ
+mostPairs = 64
+
 unfoldable pub isRecord : List ℕ → Bool
-isRecord l = leb 1 (field l 0 1) && leb (field l 0 1) 64 && lineWritten l && lineSound (lineFrom l)
+isRecord l = leb 1 (field l 0 1) && leb (field l 0 1) mostPairs && lineWritten l && lineSound (lineFrom l)

@@ -4,9 +4,11 @@ pub mod sound;
 use address::HOLDS;
 use address::Hold;
 use children::CHILDREN;
+use children::CHILDREN_ROOM;
 use children::Child;
 use children::put_children;
 use children::read_children;
+use holds::HOLDS_ROOM;
 use holds::put_holds;
 use holds::read_holds;
 use octets::number::get;
@@ -21,10 +23,28 @@ ghost use Prim.Native.Nat.{_≤_};
 ghost use lib.ListN.{length, take};
 ghost use Rattle.octets.specs.Digits.{be, field};
 ghost use Rattle.octets.specs.Part.{Wrote};
+ghost use Rattle.address.specs.Address.{mostHolds};
+ghost use Rattle.children.specs.Children.{mostChildren};
 ghost use Rattle.phase.specs.Phase.{phaseOctets};
 ghost use Rattle.record.specs.Laws.{Laws};
 ghost use Rattle.record.specs.Line.{lineOf};
-ghost use Rattle.record.specs.Octets.{lineFrom, recordOctets};
+ghost use Rattle.record.specs.Octets.{childCountPlace, holdCountPlace, lineFrom, recordLength, recordOctets};
+
+// Where the parts of a record stand: the pair first, then the time, the phase, both counts, the holds and the children.
+const TIME_AT: usize = 1;
+
+pub(crate) const PHASE_AT: usize = 5;
+
+pub(crate) const HOLD_COUNT_AT: usize = 25;
+
+pub(crate) const CHILD_COUNT_AT: usize = 26;
+
+pub(crate) const HOLDS_AT: usize = 27;
+
+pub(crate) const CHILDREN_AT: usize = HOLDS_AT + HOLDS_ROOM;
+
+// The octets of a record.
+pub const RECORD: usize = CHILDREN_AT + CHILDREN_ROOM;
 
 // A line: holds and children are those below their counts.
 pub struct Record {
@@ -38,17 +58,17 @@ pub struct Record {
 
 // The line in a record's octets.
 pub fn read_record(b: &[u8]) -> Record
-    requires { ⌜ (243 ≤ length (now b)) × (field (now b) 25 1 ≤ 8) × (field (now b) 26 1 ≤ 8) ⌝ }
+    requires { ⌜ (recordLength ≤ length (now b)) × (field (now b) holdCountPlace 1 ≤ mostHolds) × (field (now b) childCountPlace 1 ≤ mostChildren) ⌝ }
     ensures { λ r. ⌜ lineOf r ≡ lineFrom (now (b .entry)) ⌝ }
-    ensures { λ r. ⌜ (r .«hold_count» ≤ 8) × (r .«child_count» ≤ 8) ⌝ }
+    ensures { λ r. ⌜ (r .«hold_count» ≤ mostHolds) × (r .«child_count» ≤ mostChildren) ⌝ }
 {
-    let hold_count = get(b, 25, 1) as usize;
-    let child_count = get(b, 26, 1) as usize;
-    let holds = read_holds(b, 27, hold_count);
-    let children = read_children(b, 203, child_count);
-    let phase = read_phase(b, 5);
+    let hold_count = get(b, HOLD_COUNT_AT, 1) as usize;
+    let child_count = get(b, CHILD_COUNT_AT, 1) as usize;
+    let holds = read_holds(b, HOLDS_AT, hold_count);
+    let children = read_children(b, CHILDREN_AT, child_count);
+    let phase = read_phase(b, PHASE_AT);
     Record {
-        time: get(b, 1, 4),
+        time: get(b, TIME_AT, 4),
         phase,
         holds,
         hold_count,
@@ -59,12 +79,12 @@ pub fn read_record(b: &[u8]) -> Record
 
 // Stores the numbers of a record that stand before its holds.
 fn put_head(b: &mut [u8], pair: u64, time: u64, phase: Phase)
-    requires { ⌜ 25 ≤ length (now b) ⌝ }
+    requires { ⌜ holdCountPlace ≤ length (now b) ⌝ }
     ensures { λ _. ⌜ Wrote (now (b .entry)) 0 (be 1 pair ++ be 4 time ++ phaseOctets phase) (now (b .exit)) ⌝ }
 {
     put(b, 0, 1, pair);
-    put(b, 1, 4, time);
-    put_phase(b, 5, phase);
+    put(b, TIME_AT, 4, time);
+    put_phase(b, PHASE_AT, phase);
 }
 
 // Stores the parts of a record, with the first m holds and the first n children.
@@ -78,20 +98,20 @@ fn put_parts(
     children: [Child; CHILDREN],
     n: usize,
 )
-    requires { ⌜ (length (now b) ≡ 243) × (m ≤ 8) × (n ≤ 8) ⌝ }
+    requires { ⌜ (length (now b) ≡ recordLength) × (m ≤ mostHolds) × (n ≤ mostChildren) ⌝ }
     ensures { λ _. ⌜ now (b .exit) ≡ recordOctets pair (record { time = time; phase = phase; holds = take m holds; children = take n children }) ⌝ }
 {
     zero(b);
     put_head(b, pair, time, phase);
-    put(b, 25, 1, m as u64);
-    put(b, 26, 1, n as u64);
-    put_holds(b, 27, holds, m);
-    put_children(b, 203, children, n);
+    put(b, HOLD_COUNT_AT, 1, m as u64);
+    put(b, CHILD_COUNT_AT, 1, n as u64);
+    put_holds(b, HOLDS_AT, holds, m);
+    put_children(b, CHILDREN_AT, children, n);
 }
 
 // Stores a record with its pair's number from 1 on.
 pub fn put_record(b: &mut [u8], pair: u64, r: Record)
-    requires { ⌜ (length (now b) ≡ 243) × (r .«hold_count» ≤ 8) × (r .«child_count» ≤ 8) ⌝ }
+    requires { ⌜ (length (now b) ≡ recordLength) × (r .«hold_count» ≤ mostHolds) × (r .«child_count» ≤ mostChildren) ⌝ }
     ensures { λ _. ⌜ now (b .exit) ≡ recordOctets pair (lineOf r) ⌝ }
 {
     let phase = r.phase;

@@ -1,4 +1,9 @@
 // When a record is sound.
+use crate::CHILD_COUNT_AT;
+use crate::CHILDREN_AT;
+use crate::HOLD_COUNT_AT;
+use crate::HOLDS_AT;
+use crate::PHASE_AT;
 use crate::read_record;
 use address::HOLDS;
 use address::Hold;
@@ -18,25 +23,33 @@ ghost use mathlib.Core.Path.{_≡_};
 ghost use Prim.Native.Nat.{_≤_};
 ghost use lib.Dec.{leb};
 ghost use lib.ListN.{length, take};
-ghost use Rattle.address.specs.Address.{heldAddresses};
+ghost use Rattle.address.specs.Address.{heldAddresses, mostHolds};
+ghost use Rattle.children.specs.Children.{mostChildren};
 ghost use Rattle.phase.specs.Stage.{isIn};
 ghost use Rattle.phase.specs.Stage as Stage;
+ghost use Rattle.record.specs.Octets.{recordLength};
 ghost use Rattle.record.specs.Branch.{listsSound, listsWritten};
-ghost use Rattle.record.specs.Sound.{childrenSound, chosen, holdsSound, chosenFree, isRecord};
+ghost use Rattle.record.specs.Sound.{childrenSound, chosen, holdsSound, chosenFree, isRecord, mostBusyHolds};
+
+// How many holds a line that is not idle has room for.
+const BUSY_HOLDS: usize = 7;
+
+// How many pairs of a tenant and a line there are.
+const PAIRS: u64 = 64;
 
 // Whether a line in a phase may have n holds of eight.
 fn has_room(phase: Phase, n: usize) -> bool
-    ensures { λ r. ⌜ r ≡ isIn Stage.idle phase || leb n 7 ⌝ }
+    ensures { λ r. ⌜ r ≡ isIn Stage.idle phase || leb n mostBusyHolds ⌝ }
 {
     if number(phase) == IDLE {
         return true;
     }
-    n <= 7
+    n <= BUSY_HOLDS
 }
 
 // Whether none of the first n holds is the chosen address.
 fn is_free(phase: Phase, holds: [Hold; HOLDS], n: usize) -> bool
-    requires { ⌜ n ≤ 8 ⌝ }
+    requires { ⌜ n ≤ mostHolds ⌝ }
     ensures { λ r. ⌜ r ≡ chosenFree (chosen phase) (heldAddresses (take n holds)) ⌝ }
 {
     match phase {
@@ -54,7 +67,7 @@ fn is_free(phase: Phase, holds: [Hold; HOLDS], n: usize) -> bool
 
 // Whether the first n children are those that a line in a phase may have.
 fn are_children(phase: Phase, list: [Child; CHILDREN], n: usize) -> bool
-    requires { ⌜ n ≤ 8 ⌝ }
+    requires { ⌜ n ≤ mostChildren ⌝ }
     ensures { λ r. ⌜ r ≡ childrenSound phase (take n list) ⌝ }
 {
     if number(phase) == LIVE {
@@ -65,7 +78,7 @@ fn are_children(phase: Phase, list: [Child; CHILDREN], n: usize) -> bool
 
 // Whether the first n holds are those that a line in a phase may have.
 fn are_holds(time: u64, phase: Phase, list: [Hold; HOLDS], n: usize) -> bool
-    requires { ⌜ n ≤ 8 ⌝ }
+    requires { ⌜ n ≤ mostHolds ⌝ }
     ensures { λ r. ⌜ r ≡ holdsSound time phase (take n list) ⌝ }
 {
     if !has_room(phase, n) {
@@ -89,7 +102,7 @@ fn are_lists(
     children: [Child; CHILDREN],
     n: usize,
 ) -> bool
-    requires { ⌜ (m ≤ 8) × (n ≤ 8) ⌝ }
+    requires { ⌜ (m ≤ mostHolds) × (n ≤ mostChildren) ⌝ }
     ensures { λ r. ⌜ r ≡ listsSound time phase (take m holds) (take n children) ⌝ }
 {
     if !all_fit(children, n) {
@@ -103,30 +116,30 @@ fn are_lists(
 
 // Whether a record has holds and children, and zeros in the places that they do not use.
 fn is_written(b: &[u8]) -> bool
-    requires { ⌜ 243 ≤ length (now b) ⌝ }
+    requires { ⌜ recordLength ≤ length (now b) ⌝ }
     ensures { λ r. ⌜ r ≡ listsWritten (now (b .entry)) ⌝ }
 {
-    let m = get(b, 25, 1) as usize;
-    if !holds::are_written(b, 27, m) {
+    let m = get(b, HOLD_COUNT_AT, 1) as usize;
+    if !holds::are_written(b, HOLDS_AT, m) {
         return false;
     }
-    let n = get(b, 26, 1) as usize;
-    children::are_written(b, 203, n)
+    let n = get(b, CHILD_COUNT_AT, 1) as usize;
+    children::are_written(b, CHILDREN_AT, n)
 }
 
 // Whether the octets of a used record are sound.
 pub fn is_record(b: &[u8]) -> bool
-    requires { ⌜ 243 ≤ length (now b) ⌝ }
+    requires { ⌜ recordLength ≤ length (now b) ⌝ }
     ensures { λ r. ⌜ r ≡ isRecord (now (b .entry)) ⌝ }
 {
     let pair = get(b, 0, 1);
     if pair < 1 {
         return false;
     }
-    if 64 < pair {
+    if PAIRS < pair {
         return false;
     }
-    if !is_phase(b, 5) {
+    if !is_phase(b, PHASE_AT) {
         return false;
     }
     if !is_written(b) {

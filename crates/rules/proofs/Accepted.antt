@@ -27,12 +27,12 @@ use Rattle.phase.specs.Phase.{phaseFits}
 use Rattle.phase.specs.Stage.{isIn}
 use Rattle.record.specs.Laws.{lineStorable}
 use Rattle.record.specs.Line.{Line}
-use Rattle.record.specs.Octets.{lineFrom}
+use Rattle.record.specs.Octets.{lineFrom, recordLength}
 use Rattle.record.specs.Sound.{childrenSound, chosen, holdsSound, inRange, chosenFree, isRecord, lineSound, lineWritten}
 use Rattle.record.proofs.RoundTrip as RoundTrip
 use Rattle.table.specs.Laws.{mayStand, slotFits}
 use Rattle.table.specs.Slots.{Slot, Used, isOf, isOpen, lineAt, pairIn, slotAt, slotsOf}
-use Rattle.table.specs.Table.{isTable, recordOf, slot}
+use Rattle.table.specs.Table.{isTable, recordOf, slot, tableLength}
 use Rattle.table.proofs.Lookups.{open-line}
 use Rattle.table.proofs.Puts.{pair-from, pair-in, table-kept, table-length}
 use Rattle.table.proofs.Views.{found-pair, line-found, open-found, zeros-pair}
@@ -98,11 +98,11 @@ module _ (l : List ℕ) (good : Good l) (pair : ℕ) (low : 1 ≤ pair) (x : Lin
   -- its record is a sound one
   used-record : isRecord s ≡ true
   unfolding slotAt
-  used-record = go (same s (zeros 243)) refl (table-kept l (good .sound) (recordOf l pair) is-found)
+  used-record = go (same s (zeros recordLength)) refl (table-kept l (good .sound) (recordOf l pair) is-found)
     where
-      go : (b : Bool) → same s (zeros 243) ≡ b → b || isRecord s ≡ true → isRecord s ≡ true
+      go : (b : Bool) → same s (zeros recordLength) ≡ b → b || isRecord s ≡ true → isRecord s ≡ true
       go true q k =
-          let none-there : field s 0 1 ≡ 0 = ap (λ (t : List ℕ). field t 0 1) (same-equal s (zeros 243) q) ∙ zeros-pair in
+          let none-there : field s 0 1 ≡ 0 = ap (λ (t : List ℕ). field t 0 1) (same-equal s (zeros recordLength) q) ∙ zeros-pair in
           let own : field s 0 1 ≡ pair = sym (pair-from s) ∙ pair-in l (recordOf l pair) ∙ found-pair l pair is-found in
           absurd (omega arith)
       go false q k = k
@@ -114,9 +114,9 @@ module _ (l : List ℕ) (good : Good l) (pair : ℕ) (low : 1 ≤ pair) (x : Lin
   pub found-storable : lineStorable x ≡ true
   unfolding slot
   found-storable =
-      let size : length l ≡ 7776 = table-length l (good .sound) in
+      let size : length l ≡ tableLength = table-length l (good .sound) in
       ap lineStorable (sym is-line)
-      ∙ RoundTrip.storable s (allOf-part (below 256) l (243 * recordOf l pair) 243 (good .octets)) (length-part l (243 * recordOf l pair) 243 (omega (arith, is-found))) used-record
+      ∙ RoundTrip.storable s (allOf-part (below 256) l (recordLength * recordOf l pair) recordLength (good .octets)) (length-part l (recordLength * recordOf l pair) recordLength (omega (arith, is-found))) used-record
 
 -- where no number is given, none of the first conditions holds
 module _ (n m k : ℕ) (a b c : Bool) (rs : List Refusal) (e : refusal ((suc n when a) ∷ (suc m when b) ∷ (suc k when c) ∷ rs) ≡ 0) where

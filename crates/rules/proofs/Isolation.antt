@@ -15,7 +15,7 @@ use Rattle.octets.proofs.Octets.{zeros-octets}
 use Rattle.octets.proofs.Search.{and-left, and-right, either}
 use Rattle.record.specs.Line.{Line}
 use Rattle.table.specs.Slots.{Used, isOpen, lineAt, pairIn, slotLine, slotsOf}
-use Rattle.table.specs.Table.{isTable, recordOf}
+use Rattle.table.specs.Table.{isTable, recordOf, tableLength}
 use Rattle.table.proofs.Empty.{empty-sound}
 use Rattle.table.proofs.Views.{open-found}
 use Rattle.rules.specs.Answer.{Answer}
@@ -178,8 +178,8 @@ is-own : (a : ℕ) (c : Call) → isTenant a c ≡ true → tenantOf c ≡ a
 unfolding isTenant
 is-own a c e = eqb-true (tenantOf c) a e
 
-pub empty-good : Good (zeros 7776)
-empty-good = record { sound = empty-sound; octets = zeros-octets 7776 .octets }
+pub empty-good : Good (zeros tableLength)
+empty-good = record { sound = empty-sound; octets = zeros-octets tableLength .octets }
 
 -- a history gives a tenant the answers that what remains of it gives
 module _ (a : ℕ) where
@@ -212,5 +212,5 @@ module _ (a : ℕ) where
       purged g lent-g l m alike ∙ ap (λ (k : List Call). answersTo a k m) same ∙ sym (purged h lent-h m m (alike-self m (alike .right)))
 
   pub isolation : (g h : List Call) → allOf isOctets g ≡ true → allOf isOctets h ≡ true → remaining a g ≡ remaining a h
-      → answersTo a g (zeros 7776) ≡ answersTo a h (zeros 7776)
-  isolation g h lent-g lent-h same = isolation-from g h lent-g lent-h same (zeros 7776) (zeros 7776) (alike-self (zeros 7776) empty-good)
+      → answersTo a g (zeros tableLength) ≡ answersTo a h (zeros tableLength)
+  isolation g h lent-g lent-h same = isolation-from g h lent-g lent-h same (zeros tableLength) (zeros tableLength) (alike-self (zeros tableLength) empty-good)

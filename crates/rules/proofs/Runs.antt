@@ -15,6 +15,7 @@ use Rattle.octets.specs.Row.{row, isSome}
 use Rattle.octets.specs.Search.{allOf}
 use Rattle.octets.proofs.Rows.{row-set}
 use Rattle.octets.proofs.Search.{either}
+use Rattle.record.specs.Octets.{recordLength}
 use Rattle.record.specs.Line.{Line}
 use Rattle.table.specs.Slots.{Free, lineAt, pairIn, slotLine, slotOctets, slotsOf}
 use Rattle.table.specs.Table.{isTable, recordOf, slot}
@@ -79,7 +80,7 @@ module _ (tenant line : ℕ) (l : List ℕ) (good : Good l) (e : numberGiven (cl
   closes : number c l ≡ 0
   closes = sym (given-is c l) ∙ e
 
-  pub closed-zero : (slot (run c l .table) (recordOf l (pairOf tenant line)) ≡ zeros 243)
+  pub closed-zero : (slot (run c l .table) (recordOf l (pairOf tenant line)) ≡ zeros recordLength)
       × ((j : ℕ) → (j ≡ recordOf l (pairOf tenant line) → ⊥) → slot (run c l .table) j ≡ slot l j)
   unfolding stepOf step applied slotOctets isOctets lentOctets allOf
   closed-zero =

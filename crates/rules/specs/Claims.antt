@@ -18,12 +18,13 @@ use Rattle.lists.specs.Lists.{addressesIn, networksIn}
 use Rattle.phase.specs.Stage.{isIn}
 use Rattle.phase.specs.Stage as Stage
 use Rattle.place.specs.declared.Facts.{Facts}
+use Rattle.record.specs.Octets.{recordLength}
 use Rattle.record.specs.Line.{Line}
 use Rattle.response.specs.Laws as Response
 use Rattle.selection.specs.Selection as Selection
 use Rattle.selection.specs.Stops.{Ends, Exactly, addresses, countryReached, startReached}
 use Rattle.table.specs.Slots.{isOpen, lineAt, slotsOf}
-use Rattle.table.specs.Table.{isTable, recordOf, slot}
+use Rattle.table.specs.Table.{isTable, recordOf, slot, tableLength}
 use Rattle.rules.specs.Answer.{Answer, eventRoom}
 use Rattle.rules.specs.Call.{StartNumbers, Event, start, country, address, begin, init, eap, reply, final, error, congestion, give-up, child-made, child-deleted, ike-delete, Call, opening, closing, listing, timed, factsOf, pairOf}
 use Rattle.rules.specs.Histories.{answersTo, isOctets, remaining}
@@ -105,7 +106,7 @@ pub record Claims : Type 0 where
   -- a refused call leaves the table as it was, every number 0, the part empty and the answer buffer zeros
   pub refusal-leaves : (c : Call) (l : List ℕ) → (numberGiven c l ≡ 0 → ⊥) → Left c l (run c l)
   -- the empty table is sound, and a sound table stays sound, whatever the call
-  pub empty-good : Good (zeros 7776)
+  pub empty-good : Good (zeros tableLength)
   pub run-sound : (c : Call) (l : List ℕ) → isOctets c ≡ true → Good l → Good (run c l .table)
   -- on a sound table `run` does to the octets what the rules do to the slots
   pub run-slots : (c : Call) (l : List ℕ) → isOctets c ≡ true → Good l
@@ -141,7 +142,7 @@ pub record Claims : Type 0 where
   pub eap-round : Response.Laws
   -- after an accepted close the pair's record is zeros and every other record has its octets
   pub closed-zero : (tenant line : ℕ) (l : List ℕ) → Good l → numberGiven (closing tenant line) l ≡ 0
-      → (slot (run (closing tenant line) l .table) (recordOf l (pairOf tenant line)) ≡ zeros 243)
+      → (slot (run (closing tenant line) l .table) (recordOf l (pairOf tenant line)) ≡ zeros recordLength)
       × ((j : ℕ) → (j ≡ recordOf l (pairOf tenant line) → ⊥) → slot (run (closing tenant line) l .table) j ≡ slot l j)
   -- a line just opened is idle with no child, no hold and time 0, whatever the table was
   pub taken-over-clean : (tenant line : ℕ) (l : List ℕ) → Good l → numberGiven (opening tenant line) l ≡ 0
@@ -152,7 +153,7 @@ pub record Claims : Type 0 where
       ≡ padded room (listFrom 0 (set (row (ownLine tenant (slotsOf l)) 0 4) line (some fresh)))
   -- if the same calls remain after striking out the other tenants' calls that are neither open nor close, a tenant gets the same answers
   pub isolation : (a : ℕ) (g h : List Call) → allOf isOctets g ≡ true → allOf isOctets h ≡ true → remaining a g ≡ remaining a h
-      → answersTo a g (zeros 7776) ≡ answersTo a h (zeros 7776)
+      → answersTo a g (zeros tableLength) ≡ answersTo a h (zeros tableLength)
   -- the same from any two tables that are alike to the tenant
   pub isolation-from : (a : ℕ) (g h : List Call) → allOf isOctets g ≡ true → allOf isOctets h ≡ true → remaining a g ≡ remaining a h
       → (l m : List ℕ) → Alike a l m → answersTo a g l ≡ answersTo a h m

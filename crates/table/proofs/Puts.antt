@@ -14,9 +14,10 @@ use Rattle.octets.specs.Part.{part, same, zeros, zerosAt}
 use Rattle.octets.specs.Search.{all}
 use Rattle.octets.proofs.Search.{and-left, and-right, and-true, all-each, each-all, either, lower}
 use Rattle.octets.proofs.Splices.{part-before, part-behind, part-here, field-part}
+use Rattle.record.specs.Octets.{recordLength}
 use Rattle.record.specs.Sound.{isRecord}
 use Rattle.table.specs.Slots.{pairIn, slotAt, slotFrom}
-use Rattle.table.specs.Table.{hasPair, isTable, lacksPair, pairAt, pairOnce, slot, slotSound}
+use Rattle.table.specs.Table.{hasPair, isTable, lacksPair, pairAt, pairOnce, slot, slotSound, tableLength}
 
 -- the pair of a record is that of its slot
 pub pair-from : (s : List ℕ) → pairIn (slotFrom s) ≡ field s 0 1
@@ -25,28 +26,28 @@ pair-from s = either (field s 0 1) 0 (λ e. rw (eq-eqb (field s 0 1) 0 e) (sym e
 
 pub pair-in : (l : List ℕ) (i : ℕ) → pairIn (slotAt l i) ≡ pairAt l i
 unfolding slotAt pairAt slot
-pair-in l i = pair-from (slot l i) ∙ field-part l (243 * i) 243 0 1 (omega arith) ∙ ap (λ (k : ℕ). field l k 1) (add-zero (243 * i))
+pair-in l i = pair-from (slot l i) ∙ field-part l (recordLength * i) recordLength 0 1 (omega arith) ∙ ap (λ (k : ℕ). field l k 1) (add-zero (recordLength * i))
 
 -- a record's octets are free or sound
 abbrev pub Kept : List ℕ → Type 0
-Kept s = same s (zeros 243) || isRecord s ≡ true
+Kept s = same s (zeros recordLength) || isRecord s ≡ true
 
 -- the pair of one record is that of no other
 abbrev pub Apart : List ℕ → Type 0
 Apart l = (i j : ℕ) → i < 32 → j < 32 → (i ≡ j → ⊥) → pairAt l i ≡ pairAt l j → pairAt l i ≡ 0
 
 module _ (l : List ℕ) (sound : isTable l ≡ true) where
-  pub table-length : length l ≡ 7776
+  pub table-length : length l ≡ tableLength
   unfolding isTable
-  table-length = eqb-true (length l) 7776 (and-left (eqb (length l) 7776) (all 32 (slotSound l)) (and-left (eqb (length l) 7776 && all 32 (slotSound l)) (all 32 (pairOnce l)) sound))
+  table-length = eqb-true (length l) tableLength (and-left (eqb (length l) tableLength) (all 32 (slotSound l)) (and-left (eqb (length l) tableLength && all 32 (slotSound l)) (all 32 (pairOnce l)) sound))
 
   pub table-kept : (i : ℕ) → i < 32 → Kept (slot l i)
   unfolding isTable slotSound zerosAt slot
-  table-kept = all-each 32 (slotSound l) (and-right (eqb (length l) 7776) (all 32 (slotSound l)) (and-left (eqb (length l) 7776 && all 32 (slotSound l)) (all 32 (pairOnce l)) sound))
+  table-kept = all-each 32 (slotSound l) (and-right (eqb (length l) tableLength) (all 32 (slotSound l)) (and-left (eqb (length l) tableLength && all 32 (slotSound l)) (all 32 (pairOnce l)) sound))
 
   once : (i : ℕ) → i < 32 → pairOnce l i ≡ true
   unfolding isTable
-  once = all-each 32 (pairOnce l) (and-right (eqb (length l) 7776 && all 32 (slotSound l)) (all 32 (pairOnce l)) sound)
+  once = all-each 32 (pairOnce l) (and-right (eqb (length l) tableLength && all 32 (slotSound l)) (all 32 (pairOnce l)) sound)
 
   -- a record is free or has another pair than those before it
   before : (i j : ℕ) → i < 32 → j < i → pairAt l i ≡ pairAt l j → pairAt l i ≡ 0
@@ -67,25 +68,25 @@ unfolding pairOnce lacksPair hasPair
 once-of l apart i h = either (pairAt l i) 0 (λ e. rw (eq-eqb (pairAt l i) 0 e)) (λ used. rw (ne-eqb (pairAt l i) 0 used) (each-all i (lacksPair l (pairAt l i)) (λ j lower. ap not (ne-eqb (pairAt l j) (pairAt l i) (λ e. used (apart i j h (omega arith) (λ q. omega arith) (sym e)))))))
 
 -- a table of the right length whose records are kept and apart is sound
-pub is-table : (l : List ℕ) → length l ≡ 7776 → ((i : ℕ) → i < 32 → Kept (slot l i)) → Apart l → isTable l ≡ true
+pub is-table : (l : List ℕ) → length l ≡ tableLength → ((i : ℕ) → i < 32 → Kept (slot l i)) → Apart l → isTable l ≡ true
 unfolding isTable slotSound zerosAt slot
 is-table l size kept apart =
-    and-true (eqb (length l) 7776 && all 32 (slotSound l)) (all 32 (pairOnce l))
-    (and-true (eqb (length l) 7776) (all 32 (slotSound l)) (eq-eqb (length l) 7776 size) (each-all 32 (slotSound l) kept))
+    and-true (eqb (length l) tableLength && all 32 (slotSound l)) (all 32 (pairOnce l))
+    (and-true (eqb (length l) tableLength) (all 32 (slotSound l)) (eq-eqb (length l) tableLength size) (each-all 32 (slotSound l) kept))
     (each-all 32 (pairOnce l) (once-of l apart))
 
-module _ (l : List ℕ) (size : length l ≡ 7776) (i : ℕ) (inside : i < 32) (s : List ℕ) (wide : length s ≡ 243) where
+module _ (l : List ℕ) (size : length l ≡ tableLength) (i : ℕ) (inside : i < 32) (s : List ℕ) (wide : length s ≡ recordLength) where
   abbrev after : List ℕ
-  after = sets l (243 * i) s
+  after = sets l (recordLength * i) s
 
   pub slot-other : (j : ℕ) → (j ≡ i → ⊥) → slot after j ≡ slot l j
   unfolding slot
   slot-other j apart =
-      lower j i (λ below. part-before l (243 * i) s (243 * j) 243 (omega arith)) (λ above. part-behind l (243 * i) s (243 * j) 243 (omega (arith, wide)))
+      lower j i (λ below. part-before l (recordLength * i) s (recordLength * j) recordLength (omega arith)) (λ above. part-behind l (recordLength * i) s (recordLength * j) recordLength (omega (arith, wide)))
 
   pub slot-here : slot after i ≡ s
   unfolding slot
-  slot-here = ap (part after (243 * i)) (sym wide) ∙ part-here l (243 * i) s (omega (arith, wide, size))
+  slot-here = ap (part after (recordLength * i)) (sym wide) ∙ part-here l (recordLength * i) s (omega (arith, wide, size))
 
   pub pair-other : (j : ℕ) → (j ≡ i → ⊥) → pairAt after j ≡ pairAt l j
   unfolding slotAt
@@ -121,4 +122,4 @@ module _ (l : List ℕ) (size : length l ≡ 7776) (i : ℕ) (inside : i < 32) (
             own ∙ new k m away (sym (pair-other k away) ∙ sym e ∙ own)
 
     pub table-after : isTable after ≡ true
-    table-after = is-table after (length-sets l (243 * i) s ∙ size) each-kept apart-after
+    table-after = is-table after (length-sets l (recordLength * i) s ∙ size) each-kept apart-after

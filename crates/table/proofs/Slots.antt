@@ -12,17 +12,18 @@ use Rattle.octets.specs.Digits.{field}
 use Rattle.octets.specs.Part.{zerosAt}
 use Rattle.octets.specs.Search.{all, least}
 use Rattle.octets.proofs.Search.{and-false, all-fails, each-all, least-bound, least-first, least-found, least-more, least-passes}
+use Rattle.record.specs.Octets.{recordLength}
 use Rattle.record.specs.Sound.{isRecord}
 use Rattle.record.proofs.Sounds.{child-count, hold-count, record-lists}
-use Rattle.table.specs.Table.{hasPair, isTable, lacksPair, pairAt, pairOnce, slot, slotSound}
+use Rattle.table.specs.Table.{hasPair, isTable, lacksPair, pairAt, pairOnce, slot, slotSound, tableLength}
 
 module _ (l : List ℕ) (i : ℕ) where
   -- a record is free, or sound
-  pub slot-free : zerosAt l (243 * i) 243 ≡ true → true ≡ slotSound l i
+  pub slot-free : zerosAt l (recordLength * i) recordLength ≡ true → true ≡ slotSound l i
   unfolding slotSound
   slot-free e = sym (rw e)
 
-  pub slot-used : zerosAt l (243 * i) 243 ≡ false → (s : List ℕ) → s ≡ slot l i → isRecord s ≡ slotSound l i
+  pub slot-used : zerosAt l (recordLength * i) recordLength ≡ false → (s : List ℕ) → s ≡ slot l i → isRecord s ≡ slotSound l i
   unfolding slotSound
   slot-used e s q = ap isRecord q ∙ sym (rw e)
 
@@ -64,29 +65,29 @@ module _ (l : List ℕ) (i : ℕ) where
 
 -- the whole table
 module _ (l : List ℕ) where
-  pub wrong-length : (length l ≡ 7776 → ⊥) → false ≡ isTable l
+  pub wrong-length : (length l ≡ tableLength → ⊥) → false ≡ isTable l
   unfolding isTable
-  wrong-length h = sym (rw (ne-eqb (length l) 7776 h))
+  wrong-length h = sym (rw (ne-eqb (length l) tableLength h))
 
-  module _ (size : length l ≡ 7776) (i : ℕ) where
+  module _ (size : length l ≡ tableLength) (i : ℕ) where
     pub bad-slot : i < 32 → slotSound l i ≡ false → false ≡ isTable l
     unfolding isTable
-    bad-slot h e = sym (rw (eq-eqb (length l) 7776 size, all-fails 32 (slotSound l) i h e))
+    bad-slot h e = sym (rw (eq-eqb (length l) tableLength size, all-fails 32 (slotSound l) i h e))
 
     pub pair-twice : i < 32 → pairOnce l i ≡ false → false ≡ isTable l
     unfolding isTable
     pair-twice h e =
-        sym (and-false (eqb (length l) 7776 && all 32 (slotSound l)) (all 32 (pairOnce l)) (all-fails 32 (pairOnce l) i h e))
+        sym (and-false (eqb (length l) tableLength && all 32 (slotSound l)) (all 32 (pairOnce l)) (all-fails 32 (pairOnce l) i h e))
 
     pub all-sound : i ≡ 32 → all i (slotSound l) ≡ true → all i (pairOnce l) ≡ true → true ≡ isTable l
     unfolding isTable
     all-sound e a b =
         let slots : all 32 (slotSound l) ≡ true = subst (λ (k : ℕ). all k (slotSound l) ≡ true) e a in
         let pairs : all 32 (pairOnce l) ≡ true = subst (λ (k : ℕ). all k (pairOnce l) ≡ true) e b in
-        sym (rw (eq-eqb (length l) 7776 size, slots, pairs))
+        sym (rw (eq-eqb (length l) tableLength size, slots, pairs))
 
 -- the octets of a sound record can be read
-pub slot-reads : (s t : List ℕ) → s ≡ t → length s ≡ 243 → isRecord t ≡ true → (243 ≤ length s) × (field s 25 1 ≤ 8) × (field s 26 1 ≤ 8)
+pub slot-reads : (s t : List ℕ) → s ≡ t → length s ≡ recordLength → isRecord t ≡ true → (recordLength ≤ length s) × (field s 25 1 ≤ 8) × (field s 26 1 ≤ 8)
 slot-reads s t e size sound =
     let lists = record-lists s (ap isRecord e ∙ sound) in
     (omega arith, hold-count s lists, child-count s lists)

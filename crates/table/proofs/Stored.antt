@@ -20,19 +20,19 @@ use Rattle.octets.proofs.Search.{and-left, and-right, either, or-true}
 use Rattle.octets.proofs.Splices.{sets-pass}
 use Rattle.record.specs.Laws.{lineStorable}
 use Rattle.record.specs.Line.{Line}
-use Rattle.record.specs.Octets.{lineFrom, recordOctets}
+use Rattle.record.specs.Octets.{lineFrom, recordOctets, recordLength}
 use Rattle.record.specs.Sound.{isRecord, lineSound, lineWritten}
 use Rattle.record.proofs.RoundTrip.{few-children, few-holds, octets, pair-back, read-back, sound-back, write-back}
 use Rattle.record.proofs.Writing.{octet-count}
 use Rattle.table.specs.Laws.{mayStand, slotFits}
 use Rattle.table.specs.Slots.{Slot, Free, Used, isOf, isOpen, octetsOf, pairIn, put, replaced, slotAt, slotFrom, slotOctets, slotsOf}
-use Rattle.table.specs.Table.{isTable, pairAt, recordOf, slot}
+use Rattle.table.specs.Table.{isTable, pairAt, recordOf, slot, tableLength}
 use Rattle.table.proofs.Puts.{Kept, pair-from, pair-in, slot-here, slot-other, table-after, table-apart, table-kept, table-length}
 use Rattle.table.proofs.Views.{found-pair, not-before, open-found, slots-after, zeros-pair}
 
 -- what a slot's octets are where a record can hold it
 pub record Storable (s : Slot) : Type 0 where
-  pub wide : length (slotOctets s) ≡ 243
+  pub wide : length (slotOctets s) ≡ recordLength
   pub kept : Kept (slotOctets s)
   pub back : slotFrom (slotOctets s) ≡ s
 
@@ -44,8 +44,8 @@ slot-of o pair x low e f = rw (ne-eqb (field o 0 1) 0 (λ q. omega arith)) (ap�
 pub storable : (s : Slot) → slotFits s ≡ true → Storable s
 unfolding slotFits slotOctets slotFrom
 storable Free e = record {
-  wide = length-zeros 243;
-  kept = ap (λ (b : Bool). b || isRecord (zeros 243)) (equal-same (zeros 243));
+  wide = length-zeros recordLength;
+  kept = ap (λ (b : Bool). b || isRecord (zeros recordLength)) (equal-same (zeros recordLength));
   back = rw zeros-pair;
 }
 storable (Used pair x) e =
@@ -57,7 +57,7 @@ storable (Used pair x) e =
     let high : pair ≤ 64 = leb-true pair 64 (and-right (leb 1 pair) (leb pair 64) (and-left fits (lineSound x) line)) in
     record {
       wide = octet-count pair x (few-holds x sound) (few-children x sound);
-      kept = or-true (same (recordOctets pair x) (zeros 243)) (isRecord (recordOctets pair x)) (sound-back pair x low high sound in-octets);
+      kept = or-true (same (recordOctets pair x) (zeros recordLength)) (isRecord (recordOctets pair x)) (sound-back pair x low high sound in-octets);
       back = slot-of (recordOctets pair x) pair x low (pair-back pair x (omega arith)) (read-back pair x sound in-octets);
     }
 
@@ -113,12 +113,12 @@ module _ (l : List ℕ) (pair : ℕ) (s : Slot) (sound : isTable l ≡ true) (fo
 -- a slot is written in octets, and so is a table into which it is put
 slot-octets : (s : Slot) → allOf (below 256) (slotOctets s) ≡ true
 unfolding slotOctets
-slot-octets Free = zeros-octets 243 .octets
+slot-octets Free = zeros-octets recordLength .octets
 slot-octets (Used pair x) = octets pair x
 
 pub put-octets : (l : List ℕ) (pair : ℕ) (s : Slot) → allOf (below 256) l ≡ true → allOf (below 256) (put l pair s) ≡ true
 unfolding put
-put-octets l pair s h = sets-pass (below 256) l (243 * recordOf l pair) (slotOctets s) h (slot-octets s)
+put-octets l pair s h = sets-pass (below 256) l (recordLength * recordOf l pair) (slotOctets s) h (slot-octets s)
 
 -- a sound record has a pair
 used-pair : (t : List ℕ) → isRecord t ≡ true → field t 0 1 ≡ 0 → ⊥
@@ -129,13 +129,13 @@ used-pair t k q =
     omega arith
 
 -- a record that is free or sound is written back
-slot-back : (t : List ℕ) → allOf (below 256) t ≡ true → length t ≡ 243 → Kept t → slotOctets (slotFrom t) ≡ t
+slot-back : (t : List ℕ) → allOf (below 256) t ≡ true → length t ≡ recordLength → Kept t → slotOctets (slotFrom t) ≡ t
 unfolding slotOctets slotFrom isRecord
-slot-back t h size kept = go (same t (zeros 243)) refl kept
+slot-back t h size kept = go (same t (zeros recordLength)) refl kept
   where
-    go : (b : Bool) → same t (zeros 243) ≡ b → b || isRecord t ≡ true → slotOctets (slotFrom t) ≡ t
+    go : (b : Bool) → same t (zeros recordLength) ≡ b → b || isRecord t ≡ true → slotOctets (slotFrom t) ≡ t
     go true e k =
-        let zero-octets : t ≡ zeros 243 = same-equal t (zeros 243) e in
+        let zero-octets : t ≡ zeros recordLength = same-equal t (zeros recordLength) e in
         let none : field t 0 1 ≡ 0 = ap (λ (m : List ℕ). field m 0 1) zero-octets ∙ zeros-pair in
         rw none (sym zero-octets)
     go false e k = rw (ne-eqb (field t 0 1) 0 (λ q. used-pair t k q)) (write-back t h size k)
@@ -143,9 +143,9 @@ slot-back t h size kept = go (same t (zeros 243)) refl kept
 pub written-back : (l : List ℕ) → allOf (below 256) l ≡ true → isTable l ≡ true → octetsOf (slotsOf l) ≡ l
 unfolding octetsOf slotsOf slotAt slot
 written-back l h sound =
-    let size : length l ≡ 7776 = table-length l sound in
-    joined-back slotOctets 243 l 0 (slotAt l) 32
-    (λ k less. slot-back (slot l k) (allOf-part (below 256) l (243 * k) 243 h) (length-part l (243 * k) 243 (omega arith)) (table-kept l sound k less) ∙ ap (λ (m : ℕ). part l m 243) (sym (zero-add (243 * k))))
+    let size : length l ≡ tableLength = table-length l sound in
+    joined-back slotOctets recordLength l 0 (slotAt l) 32
+    (λ k less. slot-back (slot l k) (allOf-part (below 256) l (recordLength * k) recordLength h) (length-part l (recordLength * k) recordLength (omega arith)) (table-kept l sound k less) ∙ ap (λ (m : ℕ). part l m recordLength) (sym (zero-add (recordLength * k))))
     ∙ ap (part l 0) (sym size) ∙ part-whole l
 
 -- the record of a pair is the only one

@@ -15,10 +15,10 @@ use Rattle.octets.specs.Search.{allOf}
 use Rattle.octets.proofs.Parts.{same-equal}
 use Rattle.octets.proofs.Rows.{length-row, row-distinct, row-passes}
 use Rattle.octets.proofs.Search.{and-left, and-right, and-false, either, least-first, least-passes, lower}
-use Rattle.record.specs.Octets.{lineFrom}
+use Rattle.record.specs.Octets.{lineFrom, recordLength}
 use Rattle.record.specs.Sound.{isRecord, lineSound, lineWritten}
 use Rattle.table.specs.Slots.{pairIn, isOf, isOpen, lineAt, slotLine, openPairs, pairsOnce, replaced, samePair, slotAt, slotFrom, slotsOf}
-use Rattle.table.specs.Table.{hasPair, isTable, pairAt, recordOf, slot}
+use Rattle.table.specs.Table.{hasPair, isTable, pairAt, recordOf, slot, tableLength}
 use Rattle.table.proofs.Found.{row-closed, row-line, row-open, row-replaced}
 use Rattle.table.proofs.Puts.{Kept, pair-from, pair-in, slot-here, slot-other, table-apart, table-kept}
 use Rattle.table.proofs.Room.{isPaired, has-room}
@@ -55,12 +55,12 @@ module _ (l : List ℕ) (pair : ℕ) where
         row-line (slotAt l) pair (recordOf l pair) found-has 32 found not-before ∙ rw (ne-eqb (field s 0 1) 0 (λ e. omega arith))
 
     -- the slots with other octets in the record that is found
-    pub slots-after : length l ≡ 7776 → (s : List ℕ) → length s ≡ 243
-        → slotsOf (sets l (243 * recordOf l pair) s) ≡ replaced pair (slotFrom s) (slotsOf l)
+    pub slots-after : length l ≡ tableLength → (s : List ℕ) → length s ≡ recordLength
+        → slotsOf (sets l (recordLength * recordOf l pair) s) ≡ replaced pair (slotFrom s) (slotsOf l)
     unfolding slotsOf slotAt
     slots-after size s wide =
         let i = recordOf l pair in
-        row-replaced (slotAt l) pair i found-has 32 found not-before (slotAt (sets l (243 * i) s)) (slotFrom s)
+        row-replaced (slotAt l) pair i found-has 32 found not-before (slotAt (sets l (recordLength * i) s)) (slotFrom s)
         (λ j apart. ap slotFrom (slot-other l size i found s wide j apart)) (ap slotFrom (slot-here l size i found s wide))
 
   not-open : 32 ≤ recordOf l pair → isOpen pair (slotsOf l) ≡ false
@@ -72,18 +72,18 @@ module _ (l : List ℕ) (pair : ℕ) where
       lower (recordOf l pair) 32 (λ found. found-open found ∙ sym (lt-ltb (recordOf l pair) 32 found))
       (λ none. not-open none ∙ sym (le-ltb (recordOf l pair) 32 none))
 
-pub zeros-pair : field (zeros 243) 0 1 ≡ 0
+pub zeros-pair : field (zeros recordLength) 0 1 ≡ 0
 unfolding field number numberFrom part zeros
 zeros-pair = refl
 
 -- the pair of a record that is free or sound
 kept-pair : (s : List ℕ) → Kept s → field s 0 1 ≤ 64
 unfolding isRecord
-kept-pair s kept = go (same s (zeros 243)) refl kept
+kept-pair s kept = go (same s (zeros recordLength)) refl kept
   where
-    go : (b : Bool) → same s (zeros 243) ≡ b → b || isRecord s ≡ true → field s 0 1 ≤ 64
+    go : (b : Bool) → same s (zeros recordLength) ≡ b → b || isRecord s ≡ true → field s 0 1 ≤ 64
     go true e h =
-        let none : field s 0 1 ≡ 0 = ap (λ (t : List ℕ). field t 0 1) (same-equal s (zeros 243) e) ∙ zeros-pair in
+        let none : field s 0 1 ≡ 0 = ap (λ (t : List ℕ). field t 0 1) (same-equal s (zeros recordLength) e) ∙ zeros-pair in
         omega arith
     go false e h =
         leb-true (field s 0 1) 64 (and-right (leb 1 (field s 0 1)) (leb (field s 0 1) 64) (and-left (leb 1 (field s 0 1) && leb (field s 0 1) 64) (lineWritten s) (and-left (leb 1 (field s 0 1) && leb (field s 0 1) 64 && lineWritten s) (lineSound (lineFrom s)) h)))

@@ -12,14 +12,14 @@ use Rattle.octets.specs.Search.{allOf}
 use Rattle.octets.specs.Row.{isSome}
 use Rattle.record.specs.Laws.{lineStorable}
 use Rattle.record.specs.Octets.{lineFrom}
-use Rattle.record.specs.Sound.{lineSound}
+use Rattle.record.specs.Sound.{lineSound, mostPairs}
 use Rattle.table.specs.Slots.{Slot, Free, Used, isOf, isOpen, lineAt, octetsOf, openPairs, pairIn, pairsOnce, put, replaced, slotLine, slotOctets, slotsOf}
-use Rattle.table.specs.Table.{isTable, pairAt, recordOf, slot}
+use Rattle.table.specs.Table.{isTable, pairAt, recordCount, recordOf, slot, tableLength}
 
 -- a record can hold a slot
 unfoldable pub slotFits : Slot → Bool
 slotFits Free = true
-slotFits (Used pair x) = leb 1 pair && leb pair 64 && lineSound x && lineStorable x
+slotFits (Used pair x) = leb 1 pair && leb pair mostPairs && lineSound x && lineStorable x
 
 -- a slot may stand in the place of a pair's: it is free, of the same pair, or of one that is not open
 unfoldable pub mayStand : ℕ → Slot → List Slot → Bool
@@ -27,27 +27,27 @@ mayStand pair s ss = isOf 0 s || isOf pair s || not (isOpen (pairIn s) ss)
 
 pub record Laws : Type 0 where
   -- zeros are a sound table with every slot free
-  pub empty-sound : isTable (zeros 7776) ≡ true
-  pub empty-free : slotsOf (zeros 7776) ≡ replicate 32 Free
+  pub empty-sound : isTable (zeros tableLength) ≡ true
+  pub empty-free : slotsOf (zeros tableLength) ≡ replicate recordCount Free
   -- a pair stands in one record of a sound table
-  pub pair-once : (l : List ℕ) → isTable l ≡ true → (i j : ℕ) → i < 32 → j < 32 → 1 ≤ pairAt l i → pairAt l i ≡ pairAt l j → i ≡ j
+  pub pair-once : (l : List ℕ) → isTable l ≡ true → (i j : ℕ) → i < recordCount → j < recordCount → 1 ≤ pairAt l i → pairAt l i ≡ pairAt l j → i ≡ j
   pub slots-once : (l : List ℕ) → isTable l ≡ true → pairsOnce (slotsOf l) ≡ true
   -- a pair is open exactly where its record is found, and its line is the one in that record
-  pub open-found : (l : List ℕ) (pair : ℕ) → isOpen pair (slotsOf l) ≡ ltb (recordOf l pair) 32
-  pub line-found : (l : List ℕ) (pair : ℕ) → recordOf l pair < 32 → 1 ≤ pair → lineAt pair (slotsOf l) ≡ some (lineFrom (slot l (recordOf l pair)))
-  -- a slot is free exactly where fewer than 32 pairs are open
-  pub room : (l : List ℕ) → isTable l ≡ true → isOpen 0 (slotsOf l) ≡ ltb (openPairs (slotsOf l)) 32
+  pub open-found : (l : List ℕ) (pair : ℕ) → isOpen pair (slotsOf l) ≡ ltb (recordOf l pair) recordCount
+  pub line-found : (l : List ℕ) (pair : ℕ) → recordOf l pair < recordCount → 1 ≤ pair → lineAt pair (slotsOf l) ≡ some (lineFrom (slot l (recordOf l pair)))
+  -- a slot is free exactly where fewer pairs than records are open
+  pub room : (l : List ℕ) → isTable l ≡ true → isOpen 0 (slotsOf l) ≡ ltb (openPairs (slotsOf l)) recordCount
   -- the octets of a sound table are its slots written back
   pub written-back : (l : List ℕ) → allOf (below 256) l ≡ true → isTable l ≡ true → octetsOf (slotsOf l) ≡ l
   -- a slot that is put stands in its record, zeros where it is free; every other record has its octets
-  pub put-here : (l : List ℕ) (pair : ℕ) (s : Slot) → isTable l ≡ true → recordOf l pair < 32 → slotFits s ≡ true
+  pub put-here : (l : List ℕ) (pair : ℕ) (s : Slot) → isTable l ≡ true → recordOf l pair < recordCount → slotFits s ≡ true
       → slot (put l pair s) (recordOf l pair) ≡ slotOctets s
-  pub put-others : (l : List ℕ) (pair : ℕ) (s : Slot) → isTable l ≡ true → recordOf l pair < 32 → slotFits s ≡ true
+  pub put-others : (l : List ℕ) (pair : ℕ) (s : Slot) → isTable l ≡ true → recordOf l pair < recordCount → slotFits s ≡ true
       → (j : ℕ) → (j ≡ recordOf l pair → ⊥) → slot (put l pair s) j ≡ slot l j
   -- a slot that is put is read back, and the table stays sound and of octets
-  pub put-slots : (l : List ℕ) (pair : ℕ) (s : Slot) → isTable l ≡ true → recordOf l pair < 32 → slotFits s ≡ true
+  pub put-slots : (l : List ℕ) (pair : ℕ) (s : Slot) → isTable l ≡ true → recordOf l pair < recordCount → slotFits s ≡ true
       → slotsOf (put l pair s) ≡ replaced pair s (slotsOf l)
-  pub put-sound : (l : List ℕ) (pair : ℕ) (s : Slot) → isTable l ≡ true → recordOf l pair < 32 → slotFits s ≡ true
+  pub put-sound : (l : List ℕ) (pair : ℕ) (s : Slot) → isTable l ≡ true → recordOf l pair < recordCount → slotFits s ≡ true
       → mayStand pair s (slotsOf l) ≡ true → isTable (put l pair s) ≡ true
   pub put-octets : (l : List ℕ) (pair : ℕ) (s : Slot) → allOf (below 256) l ≡ true → allOf (below 256) (put l pair s) ≡ true
   -- lines after a change: of the pair changed, added or dropped, and of every other

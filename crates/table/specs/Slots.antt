@@ -1,4 +1,4 @@
--- The table as 32 slots, and what becomes of them where one changes.
+-- The table as slots, and what becomes of them where one changes.
 use Prim.Native.Nat.{ℕ, suc, _*_}
 use mathlib.Core.Bool.{Bool, true, false, cond, _&&_}
 use mathlib.Core.List.{List, [], _∷_}
@@ -10,8 +10,9 @@ use Rattle.octets.specs.Part.{zeros}
 use Rattle.octets.specs.Row.{row, joined}
 use Rattle.octets.specs.Search.{anyOf, count, distinct}
 use Rattle.record.specs.Line.{Line}
-use Rattle.record.specs.Octets.{lineFrom, recordOctets}
-use Rattle.table.specs.Table.{recordOf, slot}
+use Rattle.record.specs.Octets.{lineFrom, recordLength, recordOctets}
+use Rattle.record.specs.Sound.{mostPairs}
+use Rattle.table.specs.Table.{recordCount, recordOf, slot}
 
 -- a record as the rules see it: free, or an open pair with its line
 pub data Slot : Type 0 where
@@ -23,7 +24,7 @@ unfoldable pub slotFrom : List ℕ → Slot
 slotFrom s = cond (eqb (field s 0 1) 0) Free (Used (field s 0 1) (lineFrom s))
 
 unfoldable pub slotOctets : Slot → List ℕ
-slotOctets Free = zeros 243
+slotOctets Free = zeros recordLength
 slotOctets (Used pair x) = recordOctets pair x
 
 -- the slots in a table's octets, and back
@@ -31,7 +32,7 @@ unfoldable pub slotAt : List ℕ → ℕ → Slot
 slotAt l i = slotFrom (slot l i)
 
 unfoldable pub slotsOf : List ℕ → List Slot
-slotsOf l = row (slotAt l) 0 32
+slotsOf l = row (slotAt l) 0 recordCount
 
 unfoldable pub octetsOf : List Slot → List ℕ
 octetsOf ss = joined slotOctets ss
@@ -70,7 +71,7 @@ isTaken ss k = isOpen (suc k) ss
 
 -- how many of the 64 pairs are open
 unfoldable pub openPairs : List Slot → ℕ
-openPairs ss = count 64 (isTaken ss)
+openPairs ss = count mostPairs (isTaken ss)
 
 -- another slot in the place of the first one of a pair: a line changed, added (in the place of a free slot) or dropped (a free slot)
 unfoldable pub replaced : ℕ → Slot → List Slot → List Slot
@@ -79,4 +80,4 @@ replaced pair s (t ∷ ts) = cond (isOf pair t) (s ∷ ts) (t ∷ replaced pair 
 
 -- the same in the table's octets
 unfoldable pub put : List ℕ → ℕ → Slot → List ℕ
-put l pair s = sets l (243 * recordOf l pair) (slotOctets s)
+put l pair s = sets l (recordLength * recordOf l pair) (slotOctets s)

@@ -1,4 +1,4 @@
--- The table: 32 records of 243 octets, each free or of one pair.
+-- The table: records one behind the other, each free or of one pair.
 use Prim.Native.Nat.{ℕ, _*_}
 use mathlib.Core.Bool.{Bool, not, _&&_, _||_}
 use mathlib.Core.List.{List}
@@ -7,19 +7,27 @@ use lib.ListN.{length}
 use Rattle.octets.specs.Digits.{field}
 use Rattle.octets.specs.Part.{part, zerosAt}
 use Rattle.octets.specs.Search.{all, least}
+use Rattle.record.specs.Octets.{recordLength}
 use Rattle.record.specs.Sound.{isRecord}
+
+-- how many records there are, and how many octets they have
+abbrev pub recordCount : ℕ
+recordCount = 32
+
+abbrev pub tableLength : ℕ
+tableLength = recordCount * recordLength
 
 -- the octets of the record with a number
 unfoldable pub slot : List ℕ → ℕ → List ℕ
-slot l i = part l (243 * i) 243
+slot l i = part l (recordLength * i) recordLength
 
 -- a record is free or sound
 unfoldable pub slotSound : List ℕ → ℕ → Bool
-slotSound l i = zerosAt l (243 * i) 243 || isRecord (slot l i)
+slotSound l i = zerosAt l (recordLength * i) recordLength || isRecord (slot l i)
 
 -- the number of a record's pair, 0 where it is free
 unfoldable pub pairAt : List ℕ → ℕ → ℕ
-pairAt l i = field l (243 * i) 1
+pairAt l i = field l (recordLength * i) 1
 
 unfoldable pub hasPair : List ℕ → ℕ → ℕ → Bool
 hasPair l pair i = eqb (pairAt l i) pair
@@ -33,8 +41,8 @@ pairOnce l i = eqb (pairAt l i) 0 || all i (lacksPair l (pairAt l i))
 
 -- a sound table: right length, every record free or sound, no pair twice
 unfoldable pub isTable : List ℕ → Bool
-isTable l = eqb (length l) 7776 && all 32 (slotSound l) && all 32 (pairOnce l)
+isTable l = eqb (length l) tableLength && all recordCount (slotSound l) && all recordCount (pairOnce l)
 
--- the record of a pair, or 32 where it is not open; a free record is one of the pair 0
+-- the record of a pair, or one past the last where it is not open; a free record is one of the pair 0
 unfoldable pub recordOf : List ℕ → ℕ → ℕ
-recordOf l pair = least 32 (hasPair l pair)
+recordOf l pair = least recordCount (hasPair l pair)

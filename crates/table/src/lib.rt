@@ -3,6 +3,7 @@ use octets::number::get;
 use octets::slice::part;
 use octets::slice::zero;
 use octets::slice::zeros_at;
+use record::RECORD;
 use record::Record;
 use record::put_record;
 use record::read_record;
@@ -13,23 +14,30 @@ ghost use Prim.Native.Nat.{_+_, _*_, _≤_, _<_};
 ghost use lib.ListN.{length};
 ghost use Rattle.octets.specs.Part.{zeros, Wrote};
 ghost use Rattle.octets.specs.Search.{least};
+ghost use Rattle.address.specs.Address.{mostHolds};
+ghost use Rattle.children.specs.Children.{mostChildren};
 ghost use Rattle.record.specs.Line.{lineOf};
 ghost use Rattle.record.specs.Sound.{isRecord};
-ghost use Rattle.record.specs.Octets.{lineFrom, recordOctets};
+ghost use Rattle.record.specs.Octets.{lineFrom, recordLength, recordOctets};
 ghost use Rattle.table.specs.Laws.{Laws};
-ghost use Rattle.table.specs.Table.{hasPair, isTable, pairAt, pairOnce, recordOf, slot, slotSound};
+ghost use Rattle.table.specs.Table.{hasPair, isTable, pairAt, pairOnce, recordCount, recordOf, slot, slotSound, tableLength};
+
+// How many records a table has, and how many octets.
+pub const RECORDS: usize = 32;
+
+pub const TABLE: usize = RECORDS * RECORD;
 
 // The number of the pair of a record.
 fn pair_at(table: &[u8], i: usize) -> u64
-    requires { ⌜ 243 * i + 243 ≤ length (now table) ⌝ }
+    requires { ⌜ recordLength * i + recordLength ≤ length (now table) ⌝ }
     ensures { λ r. ⌜ r ≡ pairAt (now (table .entry)) i ⌝ }
 {
-    get(table, 243 * i, 1)
+    get(table, RECORD * i, 1)
 }
 
 // The first of n records that has a pair, or n where none has.
 fn find(table: &[u8], n: usize, pair: u64) -> usize
-    requires { ⌜ 243 * n ≤ length (now table) ⌝ }
+    requires { ⌜ recordLength * n ≤ length (now table) ⌝ }
     ensures { λ r. ⌜ (r ≡ least n (hasPair (now (table .entry)) pair)) × (r ≤ n) ⌝ }
 {
     let mut i = 0;
@@ -42,28 +50,28 @@ fn find(table: &[u8], n: usize, pair: u64) -> usize
     i
 }
 
-// The record of a pair, or 32 where the pair is not open; of the pair 0, the first free one.
+// The record of a pair, or one past the last where the pair is not open; of the pair 0, the first free one.
 pub fn record_of(table: &[u8], pair: u64) -> usize
-    requires { ⌜ 7776 ≤ length (now table) ⌝ }
-    ensures { λ r. ⌜ (r ≡ recordOf (now (table .entry)) pair) × (r ≤ 32) ⌝ }
+    requires { ⌜ tableLength ≤ length (now table) ⌝ }
+    ensures { λ r. ⌜ (r ≡ recordOf (now (table .entry)) pair) × (r ≤ recordCount) ⌝ }
 {
-    find(table, 32, pair)
+    find(table, RECORDS, pair)
 }
 
 // Whether a record is free or sound.
 fn is_slot(table: &[u8], i: usize) -> bool
-    requires { ⌜ 243 * i + 243 ≤ length (now table) ⌝ }
+    requires { ⌜ recordLength * i + recordLength ≤ length (now table) ⌝ }
     ensures { λ r. ⌜ r ≡ slotSound (now (table .entry)) i ⌝ }
 {
-    if zeros_at(table, 243 * i, 243) {
+    if zeros_at(table, RECORD * i, RECORD) {
         return true;
     }
-    is_record(part(table, 243 * i, 243))
+    is_record(part(table, RECORD * i, RECORD))
 }
 
 // Whether a record is free or none before it has its pair.
 fn is_once(table: &[u8], i: usize) -> bool
-    requires { ⌜ 243 * i + 243 ≤ length (now table) ⌝ }
+    requires { ⌜ recordLength * i + recordLength ≤ length (now table) ⌝ }
     ensures { λ r. ⌜ r ≡ pairOnce (now (table .entry)) i ⌝ }
 {
     let pair = pair_at(table, i);
@@ -77,11 +85,11 @@ fn is_once(table: &[u8], i: usize) -> bool
 pub fn is_sound(table: &[u8]) -> bool
     ensures { λ r. ⌜ r ≡ isTable (now (table .entry)) ⌝ }
 {
-    if table.len() != 7776 {
+    if table.len() != TABLE {
         return false;
     }
     let mut i = 0;
-    while i < 32 {
+    while i < RECORDS {
         if !is_slot(table, i) {
             return false;
         }
@@ -95,29 +103,29 @@ pub fn is_sound(table: &[u8]) -> bool
 
 // The line of a used record.
 pub fn read_slot(table: &[u8], i: usize) -> Record
-    requires { ⌜ (243 * i + 243 ≤ length (now table)) × (isRecord (slot (now table) i) ≡ true) ⌝ }
+    requires { ⌜ (recordLength * i + recordLength ≤ length (now table)) × (isRecord (slot (now table) i) ≡ true) ⌝ }
     ensures { λ r. ⌜ lineOf r ≡ lineFrom (slot (now (table .entry)) i) ⌝ }
-    ensures { λ r. ⌜ (r .«hold_count» ≤ 8) × (r .«child_count» ≤ 8) ⌝ }
+    ensures { λ r. ⌜ (r .«hold_count» ≤ mostHolds) × (r .«child_count» ≤ mostChildren) ⌝ }
 {
-    read_record(part(table, 243 * i, 243))
+    read_record(part(table, RECORD * i, RECORD))
 }
 
 // Stores a record.
 pub fn store(table: &mut [u8], i: usize, pair: u64, r: Record)
-    requires { ⌜ (243 * i + 243 ≤ length (now table)) × (r .«hold_count» ≤ 8) × (r .«child_count» ≤ 8) ⌝ }
-    ensures { λ _. ⌜ Wrote (now (table .entry)) (243 * i) (recordOctets pair (lineOf r)) (now (table .exit)) ⌝ }
+    requires { ⌜ (recordLength * i + recordLength ≤ length (now table)) × (r .«hold_count» ≤ mostHolds) × (r .«child_count» ≤ mostChildren) ⌝ }
+    ensures { λ _. ⌜ Wrote (now (table .entry)) (recordLength * i) (recordOctets pair (lineOf r)) (now (table .exit)) ⌝ }
 {
-    let at = 243 * i;
-    put_record(&mut table[at..at + 243], pair, r);
+    let at = RECORD * i;
+    put_record(&mut table[at..at + RECORD], pair, r);
 }
 
 // Erases a record.
 pub fn erase(table: &mut [u8], i: usize)
-    requires { ⌜ 243 * i + 243 ≤ length (now table) ⌝ }
-    ensures { λ _. ⌜ Wrote (now (table .entry)) (243 * i) (zeros 243) (now (table .exit)) ⌝ }
+    requires { ⌜ recordLength * i + recordLength ≤ length (now table) ⌝ }
+    ensures { λ _. ⌜ Wrote (now (table .entry)) (recordLength * i) (zeros recordLength) (now (table .exit)) ⌝ }
 {
-    let at = 243 * i;
-    zero(&mut table[at..at + 243]);
+    let at = RECORD * i;
+    zero(&mut table[at..at + RECORD]);
 }
 
 // Does nothing; its promise is what holds of tables and their slots.

@@ -7,7 +7,10 @@ use crate::line::put_line;
 use answers::put_number;
 use answers::put_text;
 use octets::slice::part;
+use record::RECORD;
 use record::sound::is_record;
+use table::RECORDS;
+use table::TABLE;
 use table::erase;
 use table::is_sound;
 use table::read_slot;
@@ -16,8 +19,9 @@ use table::store;
 ghost use mathlib.Core.Path.{_≡_};
 ghost use Prim.Native.Nat.{_+_, _*_, _≤_, _<_};
 ghost use lib.ListN.{length};
+ghost use Rattle.record.specs.Octets.{recordLength};
 ghost use Rattle.record.specs.Sound.{isRecord};
-ghost use Rattle.table.specs.Table.{slot};
+ghost use Rattle.table.specs.Table.{recordCount, slot};
 
 // Writes whether octets are a sound table.
 pub fn put_sound(octets: &[u8]) {
@@ -30,7 +34,7 @@ pub fn put_sound(octets: &[u8]) {
 
 // The table in a buffer: its first octets.
 pub(crate) fn table_in(buffer: &[u8; 8192]) -> &[u8] {
-    part(buffer, 0, 7776)
+    part(buffer, 0, TABLE)
 }
 
 // Writes whether the table in a buffer is sound.
@@ -41,7 +45,7 @@ pub fn put_table(buffer: &[u8; 8192]) {
 // Writes the record of a pair, or that none has it; of the pair 0, the first free one.
 pub fn put_record_of(buffer: &[u8; 8192], pair: u64) {
     let i = record_of(buffer, pair);
-    if i == 32 {
+    if i == RECORDS {
         put_text(b"none");
         return;
     }
@@ -51,15 +55,15 @@ pub fn put_record_of(buffer: &[u8; 8192], pair: u64) {
 
 // Whether a record is used and sound.
 fn is_line(table: &[u8], i: usize) -> bool
-    requires { ⌜ 243 * i + 243 ≤ length (now table) ⌝ }
+    requires { ⌜ recordLength * i + recordLength ≤ length (now table) ⌝ }
     ensures { λ r. ⌜ r ≡ isRecord (slot (now (table .entry)) i) ⌝ }
 {
-    is_record(part(table, 243 * i, 243))
+    is_record(part(table, RECORD * i, RECORD))
 }
 
 // Writes the line of a record, or a hyphen where the record is free or not sound.
 pub fn put_line_of(buffer: &[u8; 8192], i: usize)
-    requires { ⌜ i < 32 ⌝ }
+    requires { ⌜ i < recordCount ⌝ }
 {
     if is_line(buffer, i) {
         put_line(read_slot(buffer, i));
@@ -70,7 +74,7 @@ pub fn put_line_of(buffer: &[u8; 8192], i: usize)
 
 // Stores the line of a record in another for a pair; writes a hyphen where there is no line.
 pub fn store_line(buffer: &mut [u8; 8192], from: usize, to: usize, pair: u64)
-    requires { ⌜ (from < 32) × (to < 32) ⌝ }
+    requires { ⌜ (from < recordCount) × (to < recordCount) ⌝ }
 {
     if !is_line(&buffer[..], from) {
         put_text(b"-");
@@ -83,7 +87,7 @@ pub fn store_line(buffer: &mut [u8; 8192], from: usize, to: usize, pair: u64)
 
 // Erases a record.
 pub fn erase_line(buffer: &mut [u8; 8192], i: usize)
-    requires { ⌜ i < 32 ⌝ }
+    requires { ⌜ i < recordCount ⌝ }
 {
     erase(buffer, i);
     put_table(buffer);

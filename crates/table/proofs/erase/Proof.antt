@@ -4,6 +4,7 @@ use denote.Ref.{now}
 use Rattle.octets.specs.Part.{zeros}
 use borrow.Author.Needs.{needs}
 use Rattle.octets.proofs.Parts.{length-zeros}
+use Rattle.record.specs.Octets.{recordLength}
 use Rattle.table.proofs.Splices.{part-wrote, part-cleared}
 use Rattle.table.proofs.erase.Statement.{statement}
 use Rattle.table.proofs.erase.Tie as tie
@@ -33,7 +34,7 @@ returns : tie.Need-returns
 returns c =
     let a = c .before .before .before .before .before .args in
     let within = c .before .before .before .before .before .pre in
-    part-wrote (now (a .table)) (243 * a .i) 243 _ (zeros 243) within (length-zeros 243) (part-cleared (now (a .table)) (243 * a .i) 243 within _ (c .before .before .zero .ensures))
+    part-wrote (now (a .table)) (recordLength * a .i) recordLength _ (zeros recordLength) within (length-zeros recordLength) (part-cleared (now (a .table)) (recordLength * a .i) recordLength within _ (c .before .before .zero .ensures))
 
 pub erase-spec : {M : Type 1} → statement M
 erase-spec =

@@ -2,6 +2,7 @@
 use Prim.Native.Nat.{_*_}
 use denote.Ref.{now}
 use borrow.Author.Needs.{needs}
+use Rattle.record.specs.Octets.{recordLength}
 use Rattle.table.proofs.Splices.{part-stored}
 use Rattle.table.proofs.store.Statement.{statement}
 use Rattle.table.proofs.store.Tie as tie
@@ -31,7 +32,7 @@ returns : tie.Need-returns
 returns c =
     let a = c .before .before .before .before .before .args in
     let put = c .before .before .put-record in
-    part-stored (now (a .table)) (243 * a .i) 243 (c .before .before .before .before .before .pre .0) _ _ (put .ensures) (put .kept .0)
+    part-stored (now (a .table)) (recordLength * a .i) recordLength (c .before .before .before .before .before .pre .0) _ _ (put .ensures) (put .kept .0)
 
 pub store-spec : {M : Type 1} → statement M
 store-spec =
