@@ -15,13 +15,14 @@ use Rattle.network.specs.Plmn.{among, samePlmn}
 use Rattle.network.specs.declared.Plmn.{Plmn}
 use Rattle.config.specs.Branch.{SectionIs}
 use Rattle.config.specs.Lines.{entriesFrom}
-use Rattle.config.specs.Settings.{plmnIn, accepted, asListed, section}
+use Rattle.config.specs.Settings.{plmnIn, maxEntries, accepted, asListed, section}
+use Rattle.config.specs.declared.list.Kind.{Kind}
 use Rattle.config.specs.declared.list.Section.{Section}
 
 -- entries that are not accepted
-pub not-accepted : (bars : Bool) (l : List ℕ) (at : ℕ) (r : Section) → (r .ok ≡ false) × (r .count ≡ 0) × (r .next ≡ 0)
-    → false ≡ accepted (map plmnIn (section (asListed bars) (entriesFrom l at))) → SectionIs bars l at r
-not-accepted bars l at r h e₀ =
+pub not-accepted : (kind : Kind) (l : List ℕ) (at : ℕ) (r : Section) → (r .ok ≡ false) × (r .count ≡ 0) × (r .next ≡ 0)
+    → false ≡ accepted (map plmnIn (section (asListed kind) (entriesFrom l at))) → SectionIs kind l at r
+not-accepted kind l at r h e₀ =
     let none : r .count ≡ 0 = h .1 in
     let start : r .next ≡ 0 = h .2 in
     record {
@@ -46,21 +47,21 @@ module _ (S d X : List Preferred) (split : S ≡ d ++ X) (new : distinct samePlm
   pub all-collected : X ≡ [] → S ≡ d
   all-collected e = split ∙ ap (λ (x : List Preferred). d ++ x) e ∙ append-nil d
 
-  pub all-accepted : X ≡ [] → length d ≤ 16 → true ≡ accepted (map plmnIn S)
+  pub all-accepted : X ≡ [] → length d ≤ maxEntries → true ≡ accepted (map plmnIn S)
   unfolding accepted
   all-accepted e h =
       let none : length X ≡ 0 = ap length e in
-      let few : length (map plmnIn S) ≤ 16 = omega (arith, size) in
-      sym (and-true (leb (length (map plmnIn S)) 16) (distinct samePlmn (map plmnIn S)) (le-leb (length (map plmnIn S)) 16 few) (ap (λ (x : List Preferred). distinct samePlmn (map plmnIn x)) (all-collected e) ∙ new))
+      let few : length (map plmnIn S) ≤ maxEntries = omega (arith, size) in
+      sym (and-true (leb (length (map plmnIn S)) maxEntries) (distinct samePlmn (map plmnIn S)) (le-leb (length (map plmnIn S)) maxEntries few) (ap (λ (x : List Preferred). distinct samePlmn (map plmnIn x)) (all-collected e) ∙ new))
 
   module _ (p : Preferred) (Y : List Preferred) (more : X ≡ p ∷ Y) where
-    -- a seventeenth is left
-    pub too-many : length d ≡ 16 → false ≡ accepted (map plmnIn S)
+    -- one more than the most is left
+    pub too-many : length d ≡ maxEntries → false ≡ accepted (map plmnIn S)
     unfolding accepted
     too-many h =
         let one : length X ≡ suc (length Y) = ap length more in
-        let many : 16 < length (map plmnIn S) = omega (arith, size) in
-        sym (rw (lt-leb (length (map plmnIn S)) 16 many))
+        let many : maxEntries < length (map plmnIn S) = omega (arith, size) in
+        sym (rw (lt-leb (length (map plmnIn S)) maxEntries many))
 
     -- the next one stands among those collected
     pub repeated : among (plmnIn p) (map plmnIn d) ≡ true → false ≡ accepted (map plmnIn S)
@@ -69,7 +70,7 @@ module _ (S d X : List Preferred) (split : S ≡ d ++ X) (new : distinct samePlm
         let twice : distinct samePlmn (map plmnIn S) ≡ false =
         ap (λ (x : List Preferred). distinct samePlmn (map plmnIn x)) (split ∙ ap (λ (x : List Preferred). d ++ x) more)
         ∙ ap (distinct samePlmn) (map-append plmnIn d (p ∷ Y)) ∙ distinct-repeats samePlmn same-turned (map plmnIn d) (plmnIn p) (map plmnIn Y) h in
-        sym (and-false (leb (length (map plmnIn S)) 16) (distinct samePlmn (map plmnIn S)) twice)
+        sym (and-false (leb (length (map plmnIn S)) maxEntries) (distinct samePlmn (map plmnIn S)) twice)
 
     -- the next one is collected too
     pub one-more : S ≡ (d ++ p ∷ []) ++ Y

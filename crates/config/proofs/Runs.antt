@@ -1,44 +1,44 @@
 -- The entries of one kind at the start of a text, line by line.
 use Prim.Native.Nat.{ℕ, _≤_, _<_}
-use mathlib.Core.Bool.{Bool}
 use mathlib.Core.List.{List, [], _∷_}
 use mathlib.Core.Option.{Option, none}
 use mathlib.Core.Path.{_≡_, refl, sym, ap, _∙_, subst}
 use lib.ListN.{length}
 use Rattle.entry.specs.declared.Entry.{Entry}
-use Rattle.entry.specs.declared.Entry.the-variants.{End, Bad}
+use Rattle.entry.specs.declared.Entry.the-variants.{Bad}
 use Rattle.entry.specs.declared.field.Preferred.{Preferred}
 use Rattle.config.specs.Lines.{entriesFrom}
 use Rattle.config.specs.Branch.{listedOf, nextOf, ListedIs}
 use Rattle.config.specs.Settings.{asListed, section, rest, taken, left}
+use Rattle.config.specs.declared.list.Kind.{Kind}
 use Rattle.config.specs.declared.list.Listed.{Listed}
 use Rattle.config.specs.declared.list.Listed.the-variants.{Is, Not}
 
-module _ (bars : Bool) (l : List ℕ) (at : ℕ) where
+module _ (kind : Kind) (l : List ℕ) (at : ℕ) where
   abbrev f : Entry → Option Preferred
-  f = asListed bars
+  f = asListed kind
 
   -- nothing of the kind stands at the start
-  pub nothing-listed : (e : Entry) (es : List Entry) → entriesFrom l at ≡ e ∷ es → asListed bars e ≡ none → ListedIs bars l at Not
+  pub nothing-listed : (e : Entry) (es : List Entry) → entriesFrom l at ≡ e ∷ es → asListed kind e ≡ none → ListedIs kind l at Not
   unfolding section rest taken left
   nothing-listed e es h k = (ap (section f) h ∙ ap (λ (o : Option Preferred). taken o (section f es)) k, ap (rest f) h ∙ ap (λ (o : Option Preferred). left o (e ∷ es) (rest f es)) k ∙ sym h)
 
   pub line-listed : (e : Entry) (next : ℕ) → entriesFrom l at ≡ e ∷ entriesFrom l next → at < next → next ≤ length l
-      → (r : Listed) → listedOf r ≡ asListed bars e → nextOf r next → ListedIs bars l at r
+      → (r : Listed) → listedOf r ≡ asListed kind e → nextOf r next → ListedIs kind l at r
   unfolding section rest taken left listedOf
   line-listed e next h below within Not k to = nothing-listed e (entriesFrom l next) h (sym k)
   line-listed e next h below within (Is p n) k to =
-      subst (λ (m : ℕ). ListedIs bars l at (Is p m)) (sym to) (
+      subst (λ (m : ℕ). ListedIs kind l at (Is p m)) (sym to) (
         ap (section f) h ∙ ap (λ (o : Option Preferred). taken o (section f (entriesFrom l next))) (sym k),
         ap (rest f) h ∙ ap (λ (o : Option Preferred). left o (e ∷ entriesFrom l next) (rest f (entriesFrom l next))) (sym k),
         below,
         within,
       )
 
-  pub end-listed : entriesFrom l at ≡ End ∷ [] → ListedIs bars l at Not
-  unfolding asListed
-  end-listed h = nothing-listed End [] h refl
+  pub end-listed : entriesFrom l at ≡ [] → ListedIs kind l at Not
+  unfolding section rest
+  end-listed h = (ap (section f) h, ap (rest f) h ∙ sym h)
 
-  pub bad-listed : entriesFrom l at ≡ Bad ∷ [] → ListedIs bars l at Not
+  pub bad-listed : entriesFrom l at ≡ Bad ∷ [] → ListedIs kind l at Not
   unfolding asListed
   bad-listed h = nothing-listed Bad [] h refl

@@ -14,17 +14,17 @@ use Rattle.octets.proofs.Search.{least-bound}
 use Rattle.entry.specs.Entry.{lineEntry}
 use Rattle.entry.specs.Pieces.{pieces}
 use Rattle.entry.specs.declared.Entry.{Entry}
-use Rattle.entry.specs.declared.Entry.the-variants.{Home, Name, Node, Preference, Bar, End, Bad}
+use Rattle.entry.specs.declared.Entry.the-variants.{Home, Name, Node, Preference, Bar, Bad}
 use Rattle.entry.proofs.Entries.{some-piece}
 use Rattle.entry.proofs.Names.{NameLine, name-line-size}
 use Rattle.entry.proofs.Splits.{split, whole}
 use Rattle.config.specs.Branch.{NameEnds}
 use Rattle.config.specs.Lines.{lastEntry, entries, entriesFrom, lineEnd}
-use Rattle.config.specs.Settings.{isEnd, ends}
+use Rattle.config.specs.Settings.{isEnd}
 
 module _ (l : List ℕ) (at : ℕ) where
   -- nothing is left at the end
-  pub at-end : at ≡ length l → (entriesFrom l at ≡ End ∷ []) × (at ≡ length l)
+  pub at-end : at ≡ length l → (entriesFrom l at ≡ []) × (at ≡ length l)
   unfolding entriesFrom entries lastEntry pieces
   at-end e =
       let all : length l ≤ at = omega arith in
@@ -37,7 +37,6 @@ module _ (l : List ℕ) (at : ℕ) where
   name-ends r m h (Node a) k = tt
   name-ends r m h (Preference p) k = tt
   name-ends r m h (Bar p) k = tt
-  name-ends r m h End k = tt
   name-ends r m h Bad k = tt
 
   module _ (inside : at ≤ length l) where
@@ -59,20 +58,9 @@ module _ (l : List ℕ) (at : ℕ) where
         let name = name-ends r (r - at) (omega arith) (lineEntry (part l at (r - at))) (subst (λ (m : ℕ). NameLine (lineEntry (part l at (r - at))) m) (length-part l at (r - at) (omega arith)) (name-line-size (part l at (r - at)))) in
         (rw (split l 10 at r inside first h, s .2, q), omega arith, omega arith, ap (λ (k : ℕ). k + 1) first, subst (λ (x : Entry). NameEnds at x (r + 1)) (sym q) name)
 
--- a place has entries from it on
-some-entry : (l : List ℕ) (at : ℕ) → (e : Entry) × (es : List Entry) × (entriesFrom l at ≡ e ∷ es)
-unfolding entriesFrom entries
-some-entry l at =
-    let s = some-piece 10 (drop at l) in
-    go (s .0) (s .1) (s .2)
-  where
-    go : (p : List ℕ) (ps : List (List ℕ)) → pieces 10 (drop at l) ≡ p ∷ ps → (e : Entry) × (es : List Entry) × (entries (pieces 10 (drop at l)) ≡ e ∷ es)
-    go p [] h = (lastEntry p, [], rw h)
-    go p (q ∷ qs) h = (lineEntry p, entries (q ∷ qs), rw h)
-
 -- before the end of a text its end is not reached
 pub not-end : (l : List ℕ) (at : ℕ) → at ≤ length l → (at ≡ length l → ⊥) → isEnd (entriesFrom l at) ≡ false
-unfolding isEnd ends lineEnd
+unfolding isEnd lineEnd
 not-end l at inside h = go (ltb r (length l)) refl
   where
     r : ℕ
@@ -82,8 +70,7 @@ not-end l at inside h = go (ltb r (length l)) refl
     go true e =
         let bound = least-bound (length l - at) (octetIs l at 10) in
         let line = ended l at inside r (omega arith) (omega arith) refl (λ q. omega (arith, ltb-true r (length l) e)) _ refl in
-        let s = some-entry l (r + 1) in
-        rw (line .0, s .2)
+        rw (line .0)
     go false e =
         let bound = least-bound (length l - at) (octetIs l at 10) in
         rw (unended l at inside h r refl (omega (arith, ltb-false r (length l) e)))

@@ -7,17 +7,17 @@ use Rattle.octets.specs.Search.{least}
 use Rattle.entry.specs.Entry.{lineEntry}
 use Rattle.entry.specs.Pieces.{pieces}
 use Rattle.entry.specs.declared.Entry.{Entry}
-use Rattle.entry.specs.declared.Entry.the-variants.{End, Bad}
+use Rattle.entry.specs.declared.Entry.the-variants.{Bad}
 
--- what stands behind the last newline: nothing is the end, anything else is a line that no newline ends
-unfoldable pub lastEntry : List ℕ → Entry
-lastEntry [] = End
-lastEntry (c ∷ l) = Bad
+-- what stands behind the last newline: nothing, or a line that no newline ends, which is no entry
+unfoldable pub lastEntry : List ℕ → List Entry
+lastEntry [] = []
+lastEntry (c ∷ l) = Bad ∷ []
 
 -- the entries of lines of which all but the last are ended by a newline
 unfoldable pub entries : List (List ℕ) → List Entry
 entries [] = []
-entries (l ∷ []) = lastEntry l ∷ []
+entries (l ∷ []) = lastEntry l
 entries (l ∷ m ∷ ls) = lineEntry l ∷ entries (m ∷ ls)
 
 -- the entries of a text from a place on

@@ -1,4 +1,4 @@
--- The configuration text as a whole: `home` once, `node` at most once, `plmn` and `bar` at most 16 times each, in this order.
+-- The configuration text as a whole: `home` once, `node` at most once, then `plmn` and then `bar` entries.
 use Prim.Native.Nat.{ℕ, _+_, _≤_}
 use mathlib.Core.Bool.{Bool, true, false, cond, _&&_}
 use mathlib.Core.List.{List, [], _∷_, map}
@@ -8,8 +8,9 @@ use lib.ListN.{length, take}
 use Rattle.octets.specs.Search.{distinct}
 use Rattle.network.specs.Plmn.{samePlmn}
 use Rattle.network.specs.declared.Plmn.{Plmn}
+use Rattle.entry.specs.Entry.{beforeName}
 use Rattle.entry.specs.declared.Entry.{Entry}
-use Rattle.entry.specs.declared.Entry.the-variants.{Home, Name, Preference, Bar, End, Bad}
+use Rattle.entry.specs.declared.Entry.the-variants.{Home, Name, Preference, Bar, Bad}
 use Rattle.entry.specs.declared.Entry.the-variants as Entry
 use Rattle.entry.specs.declared.field.Preferred.{Preferred}
 use Rattle.config.specs.Lines.{entriesFrom, lineEnd}
@@ -17,6 +18,8 @@ use Rattle.config.specs.declared.Config.{Config}
 use Rattle.config.specs.declared.Node.{Node}
 use Rattle.config.specs.declared.Parsed.{Parsed}
 use Rattle.config.specs.declared.Node.the-variants as Node
+use Rattle.config.specs.declared.list.Kind.{Kind}
+use Rattle.config.specs.declared.list.Kind.the-variants as Kind
 
 -- the PLMN of a `plmn` entry
 unfoldable pub plmnIn : Preferred → Plmn
@@ -38,41 +41,42 @@ settingsIn c = record {
   bars = map plmnIn (take (c .«bar_count») (c .bars));
 }
 
--- at most 16, and no PLMN twice
-unfoldable pub accepted : List Plmn → Bool
-accepted ps = leb (length ps) 16 && distinct samePlmn ps
+-- the most entries of one kind, `plmn` or `bar`, that a text has
+abbrev pub maxEntries : ℕ
+maxEntries = 16
 
--- the kinds of entry that follow one another
+-- no more than that, and no PLMN twice
+unfoldable pub accepted : List Plmn → Bool
+accepted ps = leb (length ps) maxEntries && distinct samePlmn ps
+
+-- the PLMN of `home`
 unfoldable pub asHome : Entry → Option Plmn
 asHome (Home p) = some p
 asHome (Name n) = none
 asHome (Entry.Node a) = none
 asHome (Preference p) = none
 asHome (Bar p) = none
-asHome End = none
 asHome Bad = none
 
--- a node name begins ten octets behind the start of its line, which is handed in as that place
+-- what `node` says: a name by its place in the text, which is handed in, and its length; or an address
 unfoldable pub asNode : ℕ → Entry → Option Node
 asNode at (Home p) = none
 asNode at (Name n) = some (Node.Name at n)
 asNode at (Entry.Node a) = some (Node.Address a)
 asNode at (Preference p) = none
 asNode at (Bar p) = none
-asNode at End = none
 asNode at Bad = none
 
--- `plmn` and `bar` entries are kept alike, a barred PLMN with priority 0
-unfoldable pub asListed : Bool → Entry → Option Preferred
-asListed bars (Home p) = none
-asListed bars (Name n) = none
-asListed bars (Entry.Node a) = none
-asListed true (Preference p) = none
-asListed false (Preference p) = some p
-asListed true (Bar p) = some (record { plmn = p; priority = 0 })
-asListed false (Bar p) = none
-asListed bars End = none
-asListed bars Bad = none
+-- what an entry of the kind `plmn` or `bar` says; both are kept alike, a barred PLMN with priority 0
+unfoldable pub asListed : Kind → Entry → Option Preferred
+asListed kind (Home p) = none
+asListed kind (Name n) = none
+asListed kind (Entry.Node a) = none
+asListed Kind.Plmn (Preference p) = some p
+asListed Kind.Bar (Preference p) = none
+asListed Kind.Plmn (Bar p) = none
+asListed Kind.Bar (Bar p) = some (record { plmn = p; priority = 0 })
+asListed kind Bad = none
 
 -- the entries of one kind at the start of a list, and what follows them
 module _ {A : Type 0} where
@@ -92,20 +96,10 @@ module _ {A : Type 0} where
   rest kind [] = []
   rest kind (e ∷ es) = left (kind e) (e ∷ es) (rest kind es)
 
-unfoldable pub ends : Entry → Bool
-ends (Home p) = false
-ends (Name n) = false
-ends (Entry.Node a) = false
-ends (Preference p) = false
-ends (Bar p) = false
-ends End = true
-ends Bad = false
-
--- the text ends behind the last `bar`
+-- the text ends where no entry follows
 unfoldable pub isEnd : List Entry → Bool
-isEnd [] = false
-isEnd (e ∷ []) = ends e
-isEnd (e ∷ f ∷ es) = false
+isEnd [] = true
+isEnd (e ∷ es) = false
 
 -- `node` at the start of a list of entries, and what follows it
 unfoldable pub nodeOr : Option Node → Node
@@ -120,12 +114,13 @@ unfoldable pub afterNode : ℕ → List Entry → List Entry
 afterNode at [] = []
 afterNode at (e ∷ es) = left (asNode at e) (e ∷ es) es
 
--- at most 16 `plmn` and 16 `bar` entries, no PLMN twice within either, and then the end
+-- `plmn` entries, then `bar` entries, each accepted, and then the end
 unfoldable pub settle : Plmn → Node → List Entry → Option Settings
 settle h n es =
-    let ps = section (asListed false) es in
-    let bs = section (asListed true) (rest (asListed false) es) in
-    cond (accepted (map plmnIn ps) && accepted (map plmnIn bs) && isEnd (rest (asListed true) (rest (asListed false) es)))
+    let ps = section (asListed Kind.Plmn) es in
+    let behind = rest (asListed Kind.Plmn) es in
+    let bs = section (asListed Kind.Bar) behind in
+    cond (accepted (map plmnIn ps) && accepted (map plmnIn bs) && isEnd (rest (asListed Kind.Bar) behind))
     (some (record { home = h; node = n; plmns = ps; bars = map plmnIn bs })) none
 
 -- `home` comes first
@@ -137,9 +132,9 @@ unfoldable pub fromHome : ℕ → List Entry → Option Settings
 fromHome at [] = none
 fromHome at (e ∷ es) = withHome (asHome e) at es
 
--- a node name stands on the second line, behind `node`, `name` and two tabs
+-- a node name stands on the second line, behind the newline of the first and the octets before a name
 unfoldable pub namePlace : List ℕ → ℕ
-namePlace text = lineEnd text 0 + 11
+namePlace text = lineEnd text 0 + 1 + beforeName
 
 -- what a configuration text says, where it is well formed
 unfoldable pub configOf : List ℕ → Option Settings
@@ -157,8 +152,8 @@ NodeWithin text (Node.Address a) = Unit {0}
 
 -- a configuration whose entries lie in its arrays
 pub record Counted (c : Config) : Type 0 where
-  pub plmns-within : c .«plmn_count» ≤ 16
-  pub bars-within : c .«bar_count» ≤ 16
+  pub plmns-within : c .«plmn_count» ≤ maxEntries
+  pub bars-within : c .«bar_count» ≤ maxEntries
 
 -- what is kept of a text lies in the arrays and in the text
 pub record Within (text : List ℕ) (c : Config) : Type 0 where

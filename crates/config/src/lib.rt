@@ -7,6 +7,9 @@ use address::Address;
 use entry::field::Preferred;
 use network::Plmn;
 
+// The most entries of one kind, `plmn` or `bar`, that a text has.
+pub const MAX_ENTRIES: usize = 16;
+
 // Where the `node` entry sends a line: a name that stands in the text, an address, or nowhere.
 pub enum Node {
     None,
@@ -18,9 +21,9 @@ pub enum Node {
 pub struct Config {
     pub home: Plmn,
     pub node: Node,
-    pub plmns: [Preferred; 16],
+    pub plmns: [Preferred; MAX_ENTRIES],
     pub plmn_count: usize,
-    pub bars: [Preferred; 16],
+    pub bars: [Preferred; MAX_ENTRIES],
     pub bar_count: usize,
 }
 

@@ -1,4 +1,5 @@
 // Lists of PLMNs in the configuration text.
+use crate::MAX_ENTRIES;
 use crate::line::TextLine;
 use crate::line::line_at;
 use entry::Entry;
@@ -12,7 +13,13 @@ ghost use Prim.Native.Nat.{_≤_};
 ghost use lib.ListN.{length, take};
 ghost use Rattle.network.specs.Plmn.{among};
 ghost use Rattle.config.specs.Branch.{listedOf, ListedIs, SectionIs, nextOf};
-ghost use Rattle.config.specs.Settings.{asListed, plmnIn};
+ghost use Rattle.config.specs.Settings.{asListed, maxEntries, plmnIn};
+
+// The kinds of entry that are listed.
+pub enum Kind {
+    Plmn,
+    Bar,
+}
 
 // What stands at a place where a listed entry may begin.
 pub(crate) enum Listed {
@@ -22,43 +29,36 @@ pub(crate) enum Listed {
     Not,
 }
 
-// The entry of the kind that is listed: `bar` or `plmn`.
-fn of_kind(e: Entry, bars: bool, next: usize) -> Listed
-    ensures { λ r. ⌜ listedOf r ≡ asListed bars e ⌝ }
+// The entry, where it is of the kind; a barred PLMN is kept with priority 0.
+fn of_kind(e: Entry, kind: Kind, next: usize) -> Listed
+    ensures { λ r. ⌜ listedOf r ≡ asListed kind e ⌝ }
     ensures { λ r. ⌜ nextOf r next ⌝ }
 {
     match e {
-        Entry::Preference(p) => {
-            if bars {
-                Listed::Not
-            } else {
-                Listed::Is(p, next)
-            }
-        }
-        Entry::Bar(p) => {
-            if bars {
-                Listed::Is(
-                    Preferred {
-                        plmn: p,
-                        priority: 0,
-                    },
-                    next,
-                )
-            } else {
-                Listed::Not
-            }
-        }
+        Entry::Preference(p) => match kind {
+            Kind::Plmn => Listed::Is(p, next),
+            Kind::Bar => Listed::Not,
+        },
+        Entry::Bar(p) => match kind {
+            Kind::Plmn => Listed::Not,
+            Kind::Bar => Listed::Is(
+                Preferred {
+                    plmn: p,
+                    priority: 0,
+                },
+                next,
+            ),
+        },
         Entry::Home(_) => Listed::Not,
         Entry::Name(_) => Listed::Not,
         Entry::Node(_) => Listed::Not,
-        Entry::End => Listed::Not,
         Entry::Bad => Listed::Not,
     }
 }
 
 // Whether a PLMN stands among the first n preferred ones.
-pub fn has_preferred(list: [Preferred; 16], n: usize, p: Plmn) -> bool
-    requires { ⌜ n ≤ 16 ⌝ }
+pub fn has_preferred(list: [Preferred; MAX_ENTRIES], n: usize, p: Plmn) -> bool
+    requires { ⌜ n ≤ maxEntries ⌝ }
     ensures { λ r. ⌜ r ≡ among p (map plmnIn (take n list)) ⌝ }
 {
     let mut i = 0;
@@ -72,13 +72,13 @@ pub fn has_preferred(list: [Preferred; 16], n: usize, p: Plmn) -> bool
     false
 }
 
-// The listed entry at a place.
-fn listed_at(text: &[u8], at: usize, bars: bool) -> Listed
+// The entry of a kind at a place.
+fn listed_at(text: &[u8], at: usize, kind: Kind) -> Listed
     requires { ⌜ at ≤ length (now text) ⌝ }
-    ensures { λ r. ⌜ ListedIs bars (now (text .entry)) at r ⌝ }
+    ensures { λ r. ⌜ ListedIs kind (now (text .entry)) at r ⌝ }
 {
     match line_at(text, at) {
-        TextLine::Whole(e, next) => of_kind(e, bars, next),
+        TextLine::Whole(e, next) => of_kind(e, kind, next),
         TextLine::Last => Listed::Not,
         TextLine::Broken => Listed::Not,
     }
@@ -87,7 +87,7 @@ fn listed_at(text: &[u8], at: usize, bars: bool) -> Listed
 // The entries of one kind from a place on: those below the count, and where the next line begins.
 pub(crate) struct Section {
     pub ok: bool,
-    pub list: [Preferred; 16],
+    pub list: [Preferred; MAX_ENTRIES],
     pub count: usize,
     pub next: usize,
 }
@@ -101,26 +101,26 @@ fn refused() -> Section
         list: [Preferred {
             plmn: Plmn { mcc: 0, mnc: 0 },
             priority: 0,
-        }; 16],
+        }; MAX_ENTRIES],
         count: 0,
         next: 0,
     }
 }
 
-// Collects the entries of one kind that follow one another, where there are at most 16 and no PLMN stands twice.
-pub(crate) fn collect(text: &[u8], start: usize, bars: bool) -> Section
+// Collects the entries of one kind that follow one another, where there are at most `MAX_ENTRIES` and no PLMN stands twice.
+pub(crate) fn collect(text: &[u8], start: usize, kind: Kind) -> Section
     requires { ⌜ start ≤ length (now text) ⌝ }
-    ensures { λ r. ⌜ SectionIs bars (now (text .entry)) start r ⌝ }
+    ensures { λ r. ⌜ SectionIs kind (now (text .entry)) start r ⌝ }
 {
     let none = Preferred {
         plmn: Plmn { mcc: 0, mnc: 0 },
         priority: 0,
     };
-    let mut list = [none; 16];
+    let mut list = [none; MAX_ENTRIES];
     let mut count = 0;
     let mut at = start;
     loop {
-        let Listed::Is(p, next) = listed_at(text, at, bars) else {
+        let Listed::Is(p, next) = listed_at(text, at, kind) else {
             return Section {
                 ok: true,
                 list,
@@ -128,7 +128,7 @@ pub(crate) fn collect(text: &[u8], start: usize, bars: bool) -> Section
                 next: at,
             };
         };
-        if count == 16 {
+        if count == MAX_ENTRIES {
             return refused();
         }
         if has_preferred(list, count, p.plmn) {

@@ -1,10 +1,13 @@
 // The reader of the configuration text.
 use crate::Config;
+use crate::MAX_ENTRIES;
 use crate::Node;
 use crate::Parsed;
 use crate::line::TextLine;
 use crate::line::line_at;
+use crate::list::Kind;
 use crate::list::collect;
+use entry::BEFORE_NAME;
 use entry::Entry;
 use entry::field::Preferred;
 use network::MaybePlmn;
@@ -14,6 +17,7 @@ ghost use mathlib.Core.Path.{_≡_};
 ghost use Prim.Native.Nat.{_+_, _^_, _≤_, _<_};
 ghost use lib.ListN.{length};
 ghost use Rattle.network.specs.Plmn.{plmnOption};
+ghost use Rattle.entry.specs.Entry.{beforeName};
 ghost use Rattle.config.specs.Branch.{skip, Anywhere, NodedIs};
 ghost use Rattle.config.specs.Lines.{entriesFrom};
 ghost use Rattle.config.specs.Settings.{afterNode, asHome, asNode, configOf, firstNode, nodeOr, parsed, settle, withHome, Within};
@@ -26,13 +30,13 @@ pub(crate) struct Noded {
 
 // What an entry says as `node`; any other entry is left for those behind it.
 fn node_of(e: Entry, at: usize, next: usize) -> Noded
-    requires { ⌜ at + 10 < 2 ^ 64 ⌝ }
-    ensures { λ r. ⌜ (r .node ≡ nodeOr (asNode (at + 10) e)) × (r .next ≡ skip (asNode (at + 10) e) at next) ⌝ }
+    requires { ⌜ at + beforeName < 2 ^ 64 ⌝ }
+    ensures { λ r. ⌜ (r .node ≡ nodeOr (asNode (at + beforeName) e)) × (r .next ≡ skip (asNode (at + beforeName) e) at next) ⌝ }
 {
     match e {
         Entry::Name(n) => Noded {
             node: Node::Name {
-                at: at + 10,
+                at: at + BEFORE_NAME,
                 length: n,
             },
             next,
@@ -50,10 +54,6 @@ fn node_of(e: Entry, at: usize, next: usize) -> Noded
             next: at,
         },
         Entry::Bar(_) => Noded {
-            node: Node::None,
-            next: at,
-        },
-        Entry::End => Noded {
             node: Node::None,
             next: at,
         },
@@ -92,7 +92,6 @@ fn home_of(e: Entry) -> MaybePlmn
         Entry::Node(_) => MaybePlmn::None,
         Entry::Preference(_) => MaybePlmn::None,
         Entry::Bar(_) => MaybePlmn::None,
-        Entry::End => MaybePlmn::None,
         Entry::Bad => MaybePlmn::None,
     }
 }
@@ -106,7 +105,7 @@ fn ill_formed() -> Parsed
     let list = [Preferred {
         plmn: home,
         priority: 0,
-    }; 16];
+    }; MAX_ENTRIES];
     Parsed {
         ok: false,
         config: Config {
@@ -123,16 +122,16 @@ fn ill_formed() -> Parsed
 // Reads what follows `home`.
 fn settled(text: &[u8], home: Plmn, at: usize) -> Parsed
     requires { ⌜ at ≤ length (now text) ⌝ }
-    ensures { λ r. ⌜ parsed r ≡ settle home (firstNode (at + 10) (entriesFrom (now (text .entry)) at)) (afterNode (at + 10) (entriesFrom (now (text .entry)) at)) ⌝ }
+    ensures { λ r. ⌜ parsed r ≡ settle home (firstNode (at + beforeName) (entriesFrom (now (text .entry)) at)) (afterNode (at + beforeName) (entriesFrom (now (text .entry)) at)) ⌝ }
     ensures { λ r. ⌜ Within (now (text .entry)) (r .config) ⌝ }
 {
     let noded = node_at(text, at);
     let node = noded.node;
-    let plmns = collect(text, noded.next, false);
+    let plmns = collect(text, noded.next, Kind::Plmn);
     if !plmns.ok {
         return ill_formed();
     }
-    let bars = collect(text, plmns.next, true);
+    let bars = collect(text, plmns.next, Kind::Bar);
     if !bars.ok {
         return ill_formed();
     }
@@ -157,7 +156,7 @@ fn settled(text: &[u8], home: Plmn, at: usize) -> Parsed
 // Reads a text from its first entry on, which must be `home`.
 fn with_home(text: &[u8], e: Entry, at: usize) -> Parsed
     requires { ⌜ at ≤ length (now text) ⌝ }
-    ensures { λ r. ⌜ parsed r ≡ withHome (asHome e) (at + 10) (entriesFrom (now (text .entry)) at) ⌝ }
+    ensures { λ r. ⌜ parsed r ≡ withHome (asHome e) (at + beforeName) (entriesFrom (now (text .entry)) at) ⌝ }
     ensures { λ r. ⌜ Within (now (text .entry)) (r .config) ⌝ }
 {
     let MaybePlmn::Is(home) = home_of(e) else {

@@ -4,14 +4,13 @@ use mathlib.Core.Bool.{Bool, true, false}
 use mathlib.Core.List.{List, [], _∷_}
 use mathlib.Core.Option.{Option, none, some}
 use mathlib.Core.Path.{_≡_, refl, sym, ap, _∙_}
-use native.Mathlib.Nat.{sub-zero, suc-ne-zero}
+use native.Mathlib.Nat.{sub-zero}
 use native.Mathlib.Omega.{arith}
 use lib.Dec.{eqb}
 use lib.ListN.{length, drop}
 use borrow.Author.Tests.{eq-eqb, ne-eqb}
 use Rattle.octets.specs.Part.{part, same, octetIs}
 use Rattle.octets.specs.Search.{least}
-use Rattle.octets.proofs.Parts.{length-part}
 use Rattle.text.specs.Text.{text, readDigits, numberRead}
 use Rattle.text.specs.declared.Reading.{Reading}
 use Rattle.text.specs.declared.Reading.the-variants.{Number, NotDigits}
@@ -22,7 +21,7 @@ use Rattle.network.specs.declared.Plmn.{Plmn}
 use Rattle.entry.specs.Entry.{barEntry, homeEntry, plmnEntry, nameEntry, v4From, v4Entry, v6From, v6Entry, nodeEntry, three, four, entryOf, lineEntry}
 use Rattle.entry.specs.Field.{plmnOf, priorityOf}
 use Rattle.entry.specs.Pieces.{before, pieces}
-use Rattle.entry.specs.declared.Entry.the-variants.{Preference, End, Bad}
+use Rattle.entry.specs.declared.Entry.the-variants.{Preference, Bad}
 use Rattle.entry.proofs.Splits.{split, whole}
 
 -- the word of a line picks its kind
@@ -137,24 +136,9 @@ some-piece x (c ∷ l) = go (eqb c x) (pieces x l)
 
 -- a line by the places of its tabs
 module _ (l : List ℕ) (a : ℕ) (within : a ≤ length l) (found : a ≡ 0 + least (length l - 0) (octetIs l 0 9)) where
-  pub one-field : a ≡ length l → pieces 9 l ≡ part l 0 a ∷ []
-  one-field e = whole l 9 0 a zero-le found e ∙ ap (λ (k : ℕ). part l 0 k ∷ []) (sub-zero a)
-
-  pub ends : a ≡ length l → length l ≡ 0 → End ≡ lineEntry l
+  pub lone : a ≡ length l → Bad ≡ lineEntry l
   unfolding lineEntry entryOf
-  ends e z = go (part l 0 a) (length-part l 0 a (omega arith)) (one-field e)
-    where
-      go : (m : List ℕ) → length m ≡ a → pieces 9 l ≡ m ∷ [] → End ≡ entryOf (pieces 9 l)
-      go [] q h = rw h
-      go (x ∷ m) q h = absurd (suc-ne-zero (length m) (q ∙ e ∙ z))
-
-  pub lone : a ≡ length l → (length l ≡ 0 → ⊥) → Bad ≡ lineEntry l
-  unfolding lineEntry entryOf
-  lone e z = go (part l 0 a) (length-part l 0 a (omega arith)) (one-field e)
-    where
-      go : (m : List ℕ) → length m ≡ a → pieces 9 l ≡ m ∷ [] → Bad ≡ entryOf (pieces 9 l)
-      go [] q h = absurd (z (sym e ∙ sym q))
-      go (x ∷ m) q h = rw h
+  lone e = rw (whole l 9 0 a zero-le found e)
 
   module _ (tab : a ≡ length l → ⊥) (b : ℕ) (within-b : b ≤ length l) (after : a + 1 ≤ b) (found-b : b ≡ a + 1 + least (length l - (a + 1)) (octetIs l (a + 1) 9)) where
     first : pieces 9 l ≡ part l 0 a ∷ pieces 9 (drop (a + 1) l)

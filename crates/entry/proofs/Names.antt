@@ -1,4 +1,4 @@
--- A line that gives a node name has ten octets before the name.
+-- A line that gives a node name has the octets of `beforeName` before the name.
 use Prim.Native.Nat.{ℕ, suc, _+_}
 use mathlib.Core.Bool.{Bool, true, false, cond}
 use mathlib.Core.List.{List, [], _∷_}
@@ -11,11 +11,11 @@ use Rattle.octets.specs.Part.{part, same}
 use Rattle.octets.proofs.Parts.{same-equal}
 use Rattle.text.specs.Text.{text, character, readDigits}
 use Rattle.network.specs.declared.Plmn.{Plmn}
-use Rattle.entry.specs.Entry.{barEntry, homeEntry, plmnEntry, nameEntry, v4From, v4Entry, v6From, v6Entry, nodeEntry, three, four, entryOf, lineEntry}
+use Rattle.entry.specs.Entry.{barEntry, beforeName, homeEntry, plmnEntry, nameEntry, v4From, v4Entry, v6From, v6Entry, nodeEntry, three, four, entryOf, lineEntry}
 use Rattle.entry.specs.Field.{plmnOf, priorityOf, isName}
 use Rattle.entry.specs.Pieces.{before, pieces}
 use Rattle.entry.specs.declared.Entry.{Entry}
-use Rattle.entry.specs.declared.Entry.the-variants.{Home, Name, Node, Preference, Bar, End, Bad}
+use Rattle.entry.specs.declared.Entry.the-variants.{Home, Name, Node, Preference, Bar, Bad}
 use Rattle.entry.proofs.Entries.{some-piece}
 
 -- the octets of pieces with a separator behind each
@@ -36,14 +36,13 @@ size-pieces s (c ∷ l) =
     ap (λ (ps : List (List ℕ)). size (before (eqb c s) c ps)) (q .2) ∙ size-before (eqb c s) c (q .0) (q .1)
     ∙ ap (λ (ps : List (List ℕ)). suc (size ps)) (sym (q .2)) ∙ ap suc (size-pieces s l)
 
--- a line of m octets whose entry is a name has ten besides the name
+-- a line of m octets whose entry is a name has those of `beforeName` besides the name
 abbrev pub NameLine : Entry → ℕ → Type 0
 NameLine (Home p) m = Unit {0}
-NameLine (Name n) m = m ≡ 10 + n
+NameLine (Name n) m = m ≡ beforeName + n
 NameLine (Node a) m = Unit {0}
 NameLine (Preference p) m = Unit {0}
 NameLine (Bar p) m = Unit {0}
-NameLine End m = Unit {0}
 NameLine Bad m = Unit {0}
 
 module _ (m : ℕ) where
@@ -79,7 +78,7 @@ module _ (m : ℕ) where
   -- the three fields of a line of m octets
   module _ (w k l : List ℕ) (whole : size (w ∷ k ∷ l ∷ []) ≡ suc m) where
     name-line : (t : Bool) → length w ≡ 4 → length k ≡ 4 → NameLine (cond t (Name (length l)) Bad) m
-    unfolding size
+    unfolding size beforeName
     name-line true e f = omega arith
     name-line false e f = tt
 
@@ -118,8 +117,7 @@ module _ (m : ℕ) where
   fields-line : (ps : List (List ℕ)) → size ps ≡ suc m → NameLine (entryOf ps) m
   unfolding entryOf
   fields-line [] h = tt
-  fields-line ([] ∷ []) h = tt
-  fields-line ((c ∷ l) ∷ []) h = tt
+  fields-line (a ∷ []) h = tt
   fields-line (a ∷ b ∷ []) h = tt
   fields-line (a ∷ b ∷ c ∷ []) h = three-line a b c h
   fields-line (a ∷ b ∷ c ∷ d ∷ []) h = four-line a b c d

@@ -17,7 +17,7 @@ use Rattle.text.specs.Text.{readDigits, numberRead, digitText, decimal, decimal
 use Rattle.text.specs.declared.Reading.{Reading}
 use Rattle.text.specs.declared.Reading.the-variants.{Number, NotDigits}
 use Rattle.text.proofs.Texts.{write-text, length-digitText}
-use Rattle.entry.specs.Field.{plmnFrom, plmnOf, plain, priorityOf, isName, isNameCharacter}
+use Rattle.entry.specs.Field.{plmnFrom, plmnOf, maxPriority, plain, priorityOf, maxNameLength, isName, isNameCharacter}
 
 -- what a reading of a whole field says of it
 module _ (b : ℕ) (l : List ℕ) (r : Reading) (read : numberRead r ≡ readDigits b (part l 0 (length l))) where
@@ -84,24 +84,24 @@ module _ (l : List ℕ) (x : ℕ) (reads : readDigits 10 l ≡ some x) where
       go true e = absurd (h (ap length (same-equal l (decimal x) e) ∙ length-digitText 10 (decimalWidth x) x))
       go false e = e
 
-  pub priority-high : 255 < x → none ≡ priorityOf l
+  pub priority-high : maxPriority < x → none ≡ priorityOf l
   unfolding priorityOf plain
-  priority-high h = simp (reads, lt-leb x 255 h)
+  priority-high h = simp (reads, lt-leb x maxPriority h)
 
   pub priority-misspelt : (length l ≡ decimalWidth x → ⊥) → none ≡ priorityOf l
   unfolding priorityOf plain
-  priority-misspelt h = rw (reads, and-false (leb x 255) (same l (decimal x)) (misspelt h))
+  priority-misspelt h = rw (reads, and-false (leb x maxPriority) (same l (decimal x)) (misspelt h))
 
-  pub priority-is : x ≤ 255 → length l ≡ decimalWidth x → some x ≡ priorityOf l
+  pub priority-is : x ≤ maxPriority → length l ≡ decimalWidth x → some x ≡ priorityOf l
   unfolding priorityOf plain
-  priority-is h e = simp (reads, le-leb x 255 h, spelt e)
+  priority-is h e = simp (reads, le-leb x maxPriority h, spelt e)
 
 pub priority-none : (l : List ℕ) → readDigits 10 l ≡ none → none ≡ priorityOf l
 unfolding priorityOf plain
 priority-none l e = rw e
 
--- a number up to 255 has at most three digits
-width-small : (x : ℕ) → x ≤ 255 → decimalWidth x ≤ 3
+-- a number up to the greatest priority has at most three digits
+width-small : (x : ℕ) → x ≤ maxPriority → decimalWidth x ≤ 3
 unfolding decimalWidth shortEnough
 width-small x h = go (ltb 2 (least 19 (shortEnough x))) refl
   where
@@ -113,24 +113,24 @@ width-small x h = go (ltb 2 (least 19 (shortEnough x))) refl
 pub priority-long : (l : List ℕ) → 3 < length l → none ≡ priorityOf l
 priority-long l h = go (readDigits 10 l) refl
   where
-    sized : (x : ℕ) → readDigits 10 l ≡ some x → (t : Bool) → leb x 255 ≡ t → none ≡ priorityOf l
-    sized x e true f = priority-misspelt l x e (λ q. let w = width-small x (leb-true x 255 f) in omega arith)
-    sized x e false f = priority-high l x e (leb-false x 255 f)
+    sized : (x : ℕ) → readDigits 10 l ≡ some x → (t : Bool) → leb x maxPriority ≡ t → none ≡ priorityOf l
+    sized x e true f = priority-misspelt l x e (λ q. let w = width-small x (leb-true x maxPriority f) in omega arith)
+    sized x e false f = priority-high l x e (leb-false x maxPriority f)
 
     go : (o : Option ℕ) → readDigits 10 l ≡ o → none ≡ priorityOf l
     go none e = priority-none l e
-    go (some x) e = sized x e (leb x 255) refl
+    go (some x) e = sized x e (leb x maxPriority) refl
 
 module _ (l : List ℕ) where
   pub name-short : length l < 1 → false ≡ isName l
   unfolding isName
   name-short h = simp (lt-leb 1 (length l) h)
 
-  pub name-long : 1 ≤ length l → 253 < length l → false ≡ isName l
+  pub name-long : 1 ≤ length l → maxNameLength < length l → false ≡ isName l
   unfolding isName
-  name-long h k = simp (le-leb 1 (length l) h, lt-leb (length l) 253 k)
+  name-long h k = simp (le-leb 1 (length l) h, lt-leb (length l) maxNameLength k)
 
   -- within its length the characters decide
-  pub name-is : 1 ≤ length l → length l ≤ 253 → isName l ≡ allOf isNameCharacter l
+  pub name-is : 1 ≤ length l → length l ≤ maxNameLength → isName l ≡ allOf isNameCharacter l
   unfolding isName
-  name-is h k = simp (le-leb 1 (length l) h, le-leb (length l) 253 k)
+  name-is h k = simp (le-leb 1 (length l) h, le-leb (length l) maxNameLength k)

@@ -1,5 +1,5 @@
 -- One line of the configuration text, by its fields.
-use Prim.Native.Nat.{ℕ}
+use Prim.Native.Nat.{ℕ, _+_}
 use mathlib.Core.Bool.{cond}
 use mathlib.Core.List.{List, [], _∷_}
 use mathlib.Core.Option.{Option, none, some}
@@ -12,7 +12,7 @@ use Rattle.address.specs.declared.Address.the-variants.{V4, V6}
 use Rattle.entry.specs.Field.{plmnOf, priorityOf, isName}
 use Rattle.entry.specs.Pieces.{pieces}
 use Rattle.entry.specs.declared.Entry.{Entry}
-use Rattle.entry.specs.declared.Entry.the-variants.{Home, Name, Node, Preference, Bar, End, Bad}
+use Rattle.entry.specs.declared.Entry.the-variants.{Home, Name, Node, Preference, Bar, Bad}
 
 -- `home` and `bar` go on with a PLMN
 unfoldable pub homeEntry : Option Plmn → Entry
@@ -28,6 +28,11 @@ unfoldable pub plmnEntry : Option Plmn → Option ℕ → Entry
 plmnEntry none x = Bad
 plmnEntry (some p) none = Bad
 plmnEntry (some p) (some x) = Preference (record { plmn = p; priority = x })
+
+-- the octets of a line before a node name: `node`, a tab, `name` and a tab
+unfoldable pub beforeName : ℕ
+unfolding text
+beforeName = length (text "node") + 1 + length (text "name") + 1
 
 -- a node name is kept as its place in the text, so that only its length is told here
 unfoldable pub nameEntry : List ℕ → Entry
@@ -65,11 +70,10 @@ three word a b =
 unfoldable pub four : List ℕ → List ℕ → List ℕ → List ℕ → Entry
 four word a b c = cond (same word (text "plmn")) (plmnEntry (plmnOf a b) (priorityOf c)) Bad
 
--- an entry by its fields; a line with nothing in it is the end
+-- an entry by its fields, three or four; a line of one field, empty or not, is no entry
 unfoldable pub entryOf : List (List ℕ) → Entry
 entryOf [] = Bad
-entryOf ([] ∷ []) = End
-entryOf ((c ∷ l) ∷ []) = Bad
+entryOf (a ∷ []) = Bad
 entryOf (a ∷ b ∷ []) = Bad
 entryOf (a ∷ b ∷ c ∷ []) = three a b c
 entryOf (a ∷ b ∷ c ∷ d ∷ []) = four a b c d

@@ -9,6 +9,12 @@ ghost use Rattle.entry.specs.Field.{isName, isNameCharacter, plmnOf, pri
 ghost use Rattle.network.specs.Plmn.{plmnOption};
 ghost use Rattle.text.specs.Text.{numberRead};
 
+// The most characters that a node name has.
+pub const MAX_NAME_LENGTH: usize = 253;
+
+// The greatest number that a priority is.
+pub const MAX_PRIORITY: u64 = 255;
+
 // A `plmn` entry: a PLMN and its priority, 0 the best.
 pub struct Preferred {
     pub plmn: Plmn,
@@ -51,7 +57,7 @@ pub fn priority(field: &[u8]) -> Reading
     let Reading::Number(x) = read_digits(field, 0, n, 10) else {
         return Reading::NotDigits;
     };
-    if 255 < x {
+    if MAX_PRIORITY < x {
         return Reading::NotDigits;
     }
     if decimal_width(x) != n {
@@ -98,7 +104,7 @@ pub fn is_name(field: &[u8]) -> bool
     if field.len() < 1 {
         return false;
     }
-    if 253 < field.len() {
+    if MAX_NAME_LENGTH < field.len() {
         return false;
     }
     let mut i = 0;

@@ -17,6 +17,9 @@ ghost use mathlib.Core.Path.{_≡_};
 ghost use Rattle.entry.specs.Entry.{barEntry, four, homeEntry, lineEntry, nameEntry, nodeEntry, three, v4Entry, v6Entry};
 ghost use Rattle.entry.specs.Field.{plmnOf};
 
+// The octets of a line before a node name: `node`, a tab, `name` and a tab.
+pub const BEFORE_NAME: usize = 10;
+
 // What a line says.
 pub enum Entry {
     Home(Plmn),
@@ -25,8 +28,6 @@ pub enum Entry {
     Node(Address),
     Preference(Preferred),
     Bar(Plmn),
-    // Nothing: the end of the text.
-    End,
     // No entry.
     Bad,
 }
@@ -149,9 +150,6 @@ pub fn of_line(line: &[u8]) -> Entry
     let n = line.len();
     let a = find(line, 0, n, 9);
     if a == n {
-        if n == 0 {
-            return Entry::End;
-        }
         return Entry::Bad;
     }
     let b = find(line, a + 1, n, 9);

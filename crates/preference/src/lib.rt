@@ -1,5 +1,6 @@
 // What a configuration says of networks.
 use config::Config;
+use config::MAX_ENTRIES;
 use config::Node;
 use config::list::has_preferred;
 use entry::field::Preferred;
@@ -13,13 +14,13 @@ ghost use Prim.Native.Nat.{_≤_};
 ghost use lib.ListN.{take};
 ghost use Rattle.octets.specs.Row.{only};
 ghost use Rattle.network.specs.Plmn.{among, plmnOption};
-ghost use Rattle.config.specs.Settings.{Counted, settingsIn};
+ghost use Rattle.config.specs.Settings.{maxEntries, Counted, settingsIn};
 ghost use Rattle.lists.specs.Lists.{networksIn};
 ghost use Rattle.preference.specs.Branch.{whereFound};
 ghost use Rattle.preference.specs.Preference.{barred, best, better, eligible, hasPlmns, networkOf, offered, preferred, provisioned, ranked, unranked, visited};
 
 // Whether there is a record among the first n.
-fn has_plmns(list: [Preferred; 16], n: usize) -> bool
+fn has_plmns(list: [Preferred; MAX_ENTRIES], n: usize) -> bool
     ensures { λ r. ⌜ r ≡ hasPlmns (take n list) ⌝ }
 {
     0 < n
@@ -118,13 +119,13 @@ fn better_of(x: Preferred, found: bool, top: Preferred) -> Preferred
 
 // The network of best priority among the first n records that are eligible.
 fn best_of(
-    list: [Preferred; 16],
+    list: [Preferred; MAX_ENTRIES],
     n: usize,
     config: Config,
     networks: &[u8],
     place: Place,
 ) -> MaybePlmn
-    requires { ⌜ (n ≤ 16) × Counted config ⌝ }
+    requires { ⌜ (n ≤ maxEntries) × Counted config ⌝ }
     ensures { λ r. ⌜ plmnOption r ≡ networkOf (best (only (eligible (settingsIn config) (networksIn (now (networks .entry))) place) (take n list))) ⌝ }
 {
     let mut top = list[0];

@@ -19,6 +19,7 @@ use Rattle.config.specs.Lines.{entries, entriesFrom, lastEntry}
 use Rattle.config.specs.Settings.{Settings, accepted, afterNode, asHome, asListed, asNode, configOf, firstNode, fromHome, isEnd, namePlace, nodeOr, plmnIn, rest, section, settle, withHome}
 use Rattle.config.specs.declared.Node.{Node}
 use Rattle.config.specs.declared.Node.the-variants as Node
+use Rattle.config.specs.declared.list.Kind.the-variants as Kind
 use Rattle.entry.specs.Entry.{barEntry, entryOf, four, homeEntry, lineEntry, nameEntry, nodeEntry, plmnEntry, three, v4Entry, v4From, v6Entry, v6From}
 use Rattle.entry.specs.Field.{isName, plmnOf, priorityOf}
 use Rattle.entry.specs.Pieces.{pieces}
@@ -35,7 +36,6 @@ entryStorable (Entry.Name n) = true
 entryStorable (Entry.Node a) = addressStorable a
 entryStorable (Entry.Preference p) = true
 entryStorable (Entry.Bar p) = true
-entryStorable Entry.End = true
 entryStorable Entry.Bad = true
 
 unfoldable pub nodeStorable : Node → Bool
@@ -138,8 +138,7 @@ three-fields w a b =
 by-fields : (fs : List (List ℕ)) → entryStorable (entryOf fs) ≡ true
 unfolding entryOf four entryStorable
 by-fields [] = refl
-by-fields ([] ∷ []) = refl
-by-fields ((c ∷ l) ∷ []) = refl
+by-fields (a ∷ []) = refl
 by-fields (a ∷ b ∷ []) = refl
 by-fields (a ∷ b ∷ c ∷ []) = three-fields a b c
 by-fields (a ∷ b ∷ c ∷ d ∷ []) =
@@ -148,8 +147,8 @@ by-fields (a ∷ b ∷ c ∷ d ∷ []) =
     cond-passes entryStorable (same a (text "plmn")) (plmnEntry o n) Entry.Bad (plmn-entry o n) refl
 by-fields (a ∷ b ∷ c ∷ d ∷ e ∷ fs) = refl
 
-last-entry : (l : List ℕ) → entryStorable (lastEntry l) ≡ true
-unfolding lastEntry entryStorable
+last-entry : (l : List ℕ) → allOf entryStorable (lastEntry l) ≡ true
+unfolding lastEntry allOf entryStorable
 last-entry [] = refl
 last-entry (c ∷ l) = refl
 
@@ -157,7 +156,7 @@ last-entry (c ∷ l) = refl
 every-entry : (ls : List (List ℕ)) → allOf entryStorable (entries ls) ≡ true
 unfolding entries lineEntry allOf
 every-entry [] = refl
-every-entry (l ∷ []) = and-true (entryStorable (lastEntry l)) true (last-entry l) refl
+every-entry (l ∷ []) = last-entry l
 every-entry (l ∷ m ∷ ls) = and-true (entryStorable (lineEntry l)) (allOf entryStorable (entries (m ∷ ls))) (by-fields (pieces 9 l)) (every-entry (m ∷ ls))
 
 -- `node` comes from an entry
@@ -168,7 +167,6 @@ from-entry at (Entry.Name n) h = refl
 from-entry at (Entry.Node a) h = h
 from-entry at (Entry.Preference p) h = refl
 from-entry at (Entry.Bar p) h = refl
-from-entry at Entry.End h = refl
 from-entry at Entry.Bad h = refl
 
 from-entries : (at : ℕ) (es : List Entry) → allOf entryStorable es ≡ true → nodeStorable (firstNode at es) ≡ true
@@ -180,9 +178,10 @@ from-entries at (e ∷ es) h = from-entry at e (and-left (entryStorable e) (allO
 settled : (h : Plmn) (n : Node) (es : List Entry) → nodeStorable n ≡ true → settingsStorable (settle h n es) ≡ true
 unfolding settle settingsStorable
 settled h n es storable =
-    let ps = section (asListed false) es in
-    let bs = section (asListed true) (rest (asListed false) es) in
-    cond-passes settingsStorable (accepted (map plmnIn ps) && accepted (map plmnIn bs) && isEnd (rest (asListed true) (rest (asListed false) es)))
+    let ps = section (asListed Kind.Plmn) es in
+    let behind = rest (asListed Kind.Plmn) es in
+    let bs = section (asListed Kind.Bar) behind in
+    cond-passes settingsStorable (accepted (map plmnIn ps) && accepted (map plmnIn bs) && isEnd (rest (asListed Kind.Bar) behind))
     (some (record { home = h; node = n; plmns = ps; bars = map plmnIn bs })) none storable refl
 
 behind-home : (o : Option Plmn) (at : ℕ) (es : List Entry) → allOf entryStorable es ≡ true → settingsStorable (withHome o at es) ≡ true

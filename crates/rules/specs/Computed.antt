@@ -74,11 +74,11 @@ unfolding empty slotsOn
     Address.versionOf Address.sameAddress Address.stands Address.addressIn Address.permitted
     Pieces.before Pieces.pieces
     Field.plmnFrom Field.plmnOf Field.plain Field.priorityOf Field.isNameCharacter Field.isName
-    Entry.homeEntry Entry.barEntry Entry.plmnEntry Entry.nameEntry Entry.v4From Entry.v4Entry Entry.v6From Entry.v6Entry Entry.nodeEntry
+    Entry.homeEntry Entry.barEntry Entry.plmnEntry Entry.beforeName Entry.nameEntry Entry.v4From Entry.v4Entry Entry.v6From Entry.v6Entry Entry.nodeEntry
     Entry.three Entry.four Entry.entryOf Entry.lineEntry
     Lines.lastEntry Lines.entries Lines.entriesFrom Lines.lineEnd
     Settings.plmnIn Settings.accepted Settings.asHome Settings.asNode Settings.asListed Settings.taken Settings.section
-    Settings.left Settings.rest Settings.ends Settings.isEnd Settings.nodeOr Settings.firstNode Settings.afterNode Settings.settle
+    Settings.left Settings.rest Settings.isEnd Settings.nodeOr Settings.firstNode Settings.afterNode Settings.settle
     Settings.withHome Settings.fromHome Settings.namePlace Settings.configOf
     Addresses.addressOctets Addresses.versionFrom Addresses.addressFrom Addresses.isAddress
     Lists.whole Lists.networkAt Lists.networkFits Lists.networksFit Lists.networksIn Lists.addressAt Lists.addressFits Lists.addressesFit

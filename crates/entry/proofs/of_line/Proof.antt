@@ -6,7 +6,7 @@ use native.Mathlib.Nat.{le-refl}
 use native.Mathlib.Omega.{arith}
 use borrow.Author.Needs.{needs}
 use Rattle.entry.specs.Entry.{three, four}
-use Rattle.entry.proofs.Entries.{ends, lone, pair, of-three, of-four, more}
+use Rattle.entry.proofs.Entries.{lone, pair, of-three, of-four, more}
 use Rattle.entry.proofs.of_line.Statement.{statement}
 use Rattle.entry.proofs.of_line.Tie as tie
 
@@ -30,10 +30,7 @@ find-requires : tie.Need-find-requires
 find-requires c κs = search needs
 
 returns : tie.Need-returns
-returns c = ends _ _ (c .before .before .find .ensures .2) (c .before .before .find .ensures .0) (c .before .if1 .taken) (c .if2 .taken)
-
-returns-2 : tie.Need-returns-2
-returns-2 c = lone _ _ (c .before .before .find .ensures .2) (c .before .before .find .ensures .0) (c .before .if1 .taken) (c .if2 .left)
+returns c = lone _ _ (c .before .find .ensures .2) (c .before .find .ensures .0) (c .if1 .taken)
 
 add-find : tie.Need-add-find
 add-find c = search needs
@@ -41,8 +38,8 @@ add-find c = search needs
 find-requires-2 : tie.Need-find-requires-2
 find-requires-2 c κs = search needs
 
-returns-3 : tie.Need-returns-3
-returns-3 c = pair _ _ (c .before .before .before .find .ensures .2) (c .before .before .before .find .ensures .0) (c .before .before .if1 .left) _ (c .before .find2 .ensures .2) (c .before .find2 .ensures .1) (c .before .find2 .ensures .0) (c .if3 .taken)
+returns-2 : tie.Need-returns-2
+returns-2 c = pair _ _ (c .before .before .before .find .ensures .2) (c .before .before .before .find .ensures .0) (c .before .before .if1 .left) _ (c .before .find2 .ensures .2) (c .before .find2 .ensures .1) (c .before .find2 .ensures .0) (c .if2 .taken)
 
 part-requires : tie.Need-part-requires
 part-requires c κs = search needs
@@ -80,14 +77,14 @@ part-requires-3 c κs = search needs
 of-three-requires : tie.Need-of-three-requires
 of-three-requires c κs = search needs
 
-returns-4 : tie.Need-returns-4
-returns-4 c = c .of-three .ensures ∙ three-of (c .before .before .before .before .before .part .ensures .0) (c .before .before .before .before .part2 .ensures .0) (c .before .before .part3 .ensures .0) ∙ of-three _ _ (c .before .before .before .before .before .before .before .before .before .find .ensures .2) (c .before .before .before .before .before .before .before .before .before .find .ensures .0) (c .before .before .before .before .before .before .before .before .if1 .left) _ (c .before .before .before .before .before .before .before .find2 .ensures .2) (c .before .before .before .before .before .before .before .find2 .ensures .1) (c .before .before .before .before .before .before .before .find2 .ensures .0) (c .before .before .before .before .before .before .if3 .left) _ (c .before .before .before .find3 .ensures .2) (c .before .before .before .find3 .ensures .1) (c .before .before .before .find3 .ensures .0) (c .before .if4 .taken)
+returns-3 : tie.Need-returns-3
+returns-3 c = c .of-three .ensures ∙ three-of (c .before .before .before .before .before .part .ensures .0) (c .before .before .before .before .part2 .ensures .0) (c .before .before .part3 .ensures .0) ∙ of-three _ _ (c .before .before .before .before .before .before .before .before .before .find .ensures .2) (c .before .before .before .before .before .before .before .before .before .find .ensures .0) (c .before .before .before .before .before .before .before .before .if1 .left) _ (c .before .before .before .before .before .before .before .find2 .ensures .2) (c .before .before .before .before .before .before .before .find2 .ensures .1) (c .before .before .before .before .before .before .before .find2 .ensures .0) (c .before .before .before .before .before .before .if2 .left) _ (c .before .before .before .find3 .ensures .2) (c .before .before .before .find3 .ensures .1) (c .before .before .before .find3 .ensures .0) (c .before .if3 .taken)
 
 add-find-3 : tie.Need-add-find-3
 add-find-3 c = search needs
 
 find-requires-4 : tie.Need-find-requires-4
-find-requires-4 c κs = (next _ _ (c .before .before .find3 .ensures .2) (c .if4 .left), le-refl _)
+find-requires-4 c κs = (next _ _ (c .before .before .find3 .ensures .2) (c .if3 .left), le-refl _)
 
 add-part-3 : tie.Need-add-part-3
 add-part-3 c = search needs
@@ -104,11 +101,11 @@ part-requires-4 c κs = room _ _ _ (c .before .find4 .ensures .1) (c .before .fi
 of-four-requires : tie.Need-of-four-requires
 of-four-requires c κs = search needs
 
-returns-5 : tie.Need-returns-5
-returns-5 c = c .of-four .ensures ∙ four-of (c .before .before .before .before .before .before .before .before .part .ensures .0) (c .before .before .before .before .before .before .before .part2 .ensures .0) (c .before .before .before .before .before .part3 .ensures .0) (c .before .part4 .ensures .0) ∙ of-four _ _ (c .before .before .before .before .before .before .before .before .before .before .before .before .find .ensures .2) (c .before .before .before .before .before .before .before .before .before .before .before .before .find .ensures .0) (c .before .before .before .before .before .before .before .before .before .before .before .if1 .left) _ (c .before .before .before .before .before .before .before .before .before .before .find2 .ensures .2) (c .before .before .before .before .before .before .before .before .before .before .find2 .ensures .1) (c .before .before .before .before .before .before .before .before .before .before .find2 .ensures .0) (c .before .before .before .before .before .before .before .before .before .if3 .left) _ (c .before .before .before .before .before .before .find3 .ensures .2) (c .before .before .before .before .before .before .find3 .ensures .1) (c .before .before .before .before .before .before .find3 .ensures .0) (c .before .before .before .before .if4 .left) _ (c .before .before .before .find4 .ensures .0) (c .before .before .if5 .taken)
+returns-4 : tie.Need-returns-4
+returns-4 c = c .of-four .ensures ∙ four-of (c .before .before .before .before .before .before .before .before .part .ensures .0) (c .before .before .before .before .before .before .before .part2 .ensures .0) (c .before .before .before .before .before .part3 .ensures .0) (c .before .part4 .ensures .0) ∙ of-four _ _ (c .before .before .before .before .before .before .before .before .before .before .before .before .find .ensures .2) (c .before .before .before .before .before .before .before .before .before .before .before .before .find .ensures .0) (c .before .before .before .before .before .before .before .before .before .before .before .if1 .left) _ (c .before .before .before .before .before .before .before .before .before .before .find2 .ensures .2) (c .before .before .before .before .before .before .before .before .before .before .find2 .ensures .1) (c .before .before .before .before .before .before .before .before .before .before .find2 .ensures .0) (c .before .before .before .before .before .before .before .before .before .if2 .left) _ (c .before .before .before .before .before .before .find3 .ensures .2) (c .before .before .before .before .before .before .find3 .ensures .1) (c .before .before .before .before .before .before .find3 .ensures .0) (c .before .before .before .before .if3 .left) _ (c .before .before .before .find4 .ensures .0) (c .before .before .if4 .taken)
 
-returns-6 : tie.Need-returns-6
-returns-6 c = more _ _ (c .before .before .before .before .before .before .before .before .before .before .find .ensures .2) (c .before .before .before .before .before .before .before .before .before .before .find .ensures .0) (c .before .before .before .before .before .before .before .before .before .if1 .left) _ (c .before .before .before .before .before .before .before .before .find2 .ensures .2) (c .before .before .before .before .before .before .before .before .find2 .ensures .1) (c .before .before .before .before .before .before .before .before .find2 .ensures .0) (c .before .before .before .before .before .before .before .if3 .left) _ (c .before .before .before .before .find3 .ensures .2) (c .before .before .before .before .find3 .ensures .1) (c .before .before .before .before .find3 .ensures .0) (c .before .before .if4 .left) _ (c .before .find4 .ensures .0) (c .if5 .left)
+returns-5 : tie.Need-returns-5
+returns-5 c = more _ _ (c .before .before .before .before .before .before .before .before .before .before .find .ensures .2) (c .before .before .before .before .before .before .before .before .before .before .find .ensures .0) (c .before .before .before .before .before .before .before .before .before .if1 .left) _ (c .before .before .before .before .before .before .before .before .find2 .ensures .2) (c .before .before .before .before .before .before .before .before .find2 .ensures .1) (c .before .before .before .before .before .before .before .before .find2 .ensures .0) (c .before .before .before .before .before .before .before .if2 .left) _ (c .before .before .before .before .find3 .ensures .2) (c .before .before .before .before .find3 .ensures .1) (c .before .before .before .before .find3 .ensures .0) (c .before .before .if3 .left) _ (c .before .find4 .ensures .0) (c .if4 .left)
 
 pub of-line-spec : {M : Type 1} → statement M
 of-line-spec =
@@ -116,10 +113,9 @@ of-line-spec =
     (tie.spec
     find-requires
     returns
-    returns-2
     add-find
     find-requires-2
-    returns-3
+    returns-2
     part-requires
     add-part
     sub-part
@@ -132,7 +128,7 @@ of-line-spec =
     sub-part-4
     part-requires-3
     of-three-requires
-    returns-4
+    returns-3
     add-find-3
     find-requires-4
     add-part-3
@@ -140,5 +136,5 @@ of-line-spec =
     sub-part-6
     part-requires-4
     of-four-requires
-    returns-5
-    returns-6)
+    returns-4
+    returns-5)

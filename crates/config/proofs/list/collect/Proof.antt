@@ -15,30 +15,30 @@ use Rattle.entry.specs.declared.field.Preferred.{Preferred}
 use Rattle.network.specs.Plmn.{samePlmn}
 use Rattle.config.specs.Lines.{entriesFrom}
 use Rattle.config.specs.Branch.{ListedIs}
-use Rattle.config.specs.Settings.{plmnIn, asListed, section, rest}
+use Rattle.config.specs.Settings.{maxEntries, plmnIn, asListed, section, rest}
 use Rattle.config.specs.declared.list.Listed.{Listed}
 use Rattle.config.proofs.Collects.{not-accepted, all-collected, all-accepted, too-many, repeated, one-more, still-new}
 use Rattle.config.proofs.list.collect.Statement.{statement}
 use Rattle.config.proofs.list.collect.Tie as tie
 
 abbrev Inv-loop : tie.InvT-loop
-Inv-loop text start bars list₀ count₀ at₀ list count at =
-    (at ≤ length text) × (count ≤ 16) × (length list ≡ 16)
-    × (section (asListed bars) (entriesFrom text start) ≡ take count list ++ section (asListed bars) (entriesFrom text at))
-    × (rest (asListed bars) (entriesFrom text start) ≡ rest (asListed bars) (entriesFrom text at))
+Inv-loop text start kind list₀ count₀ at₀ list count at =
+    (at ≤ length text) × (count ≤ maxEntries) × (length list ≡ maxEntries)
+    × (section (asListed kind) (entriesFrom text start) ≡ take count list ++ section (asListed kind) (entriesFrom text at))
+    × (rest (asListed kind) (entriesFrom text start) ≡ rest (asListed kind) (entriesFrom text at))
     × (distinct samePlmn (map plmnIn (take count list)) ≡ true)
 
 abbrev μ-loop : tie.MeasureT-loop
-μ-loop text start bars list₀ count₀ at₀ list count at = length text - at
+μ-loop text start kind list₀ count₀ at₀ list count at = length text - at
 
-sized : (l : List Preferred) (n : ℕ) → n ≤ 16 → length l ≡ 16 → length (take n l) ≡ n
+sized : (l : List Preferred) (n : ℕ) → n ≤ maxEntries → length l ≡ maxEntries → length (take n l) ≡ n
 sized l n h e = length-take-le n l (omega arith)
 
-next : (n : ℕ) → n ≤ 16 → (n ≡ 16 → ⊥) → n < 16
+next : (n : ℕ) → n ≤ maxEntries → (n ≡ maxEntries → ⊥) → n < maxEntries
 next n h k = omega arith
 
 -- an entry stored behind those collected is collected
-snoc : (l : List Preferred) (n : ℕ) (p : Preferred) → length l ≡ 16 → n < 16 → take (n + 1) (set l n p) ≡ take n l ++ p ∷ []
+snoc : (l : List Preferred) (n : ℕ) (p : Preferred) → length l ≡ maxEntries → n < maxEntries → take (n + 1) (set l n p) ≡ take n l ++ p ∷ []
 snoc l n p e h = ap (λ (k : ℕ). take k (set l n p)) (add-one n) ∙ take-suc-set l n p (omega arith)
 
 falls : (at next n : ℕ) → at < next → next ≤ n → n - next < n - at
@@ -61,9 +61,9 @@ returns : tie.Need-returns Inv-loop μ-loop
 returns c =
     let a = c .before .before .before .before .before .args in
     let at-loop = c .before .before .before .loop in
-    let none = subst (λ (r : Listed). ListedIs (a .bars) (now (a .text)) (at-loop .at) r) (c .enum-told .given .1) (c .before .before .listed-at .ensures) in
+    let none = subst (λ (r : Listed). ListedIs (a .kind) (now (a .text)) (at-loop .at) r) (c .enum-told .given .1) (c .before .before .listed-at .ensures) in
     let d = take (at-loop .count) (at-loop .list) in
-    let few : length d ≤ 16 = subst (λ (k : ℕ). k ≤ 16) (sym (sized (at-loop .list) (at-loop .count) (at-loop .inv .1) (at-loop .inv .2))) (at-loop .inv .1) in
+    let few : length d ≤ maxEntries = subst (λ (k : ℕ). k ≤ maxEntries) (sym (sized (at-loop .list) (at-loop .count) (at-loop .inv .1) (at-loop .inv .2))) (at-loop .inv .1) in
     record {
       ok-is = all-accepted _ d _ (at-loop .inv .3) (at-loop .inv .5) (none .0) few;
       list-is = λ _. all-collected _ d _ (at-loop .inv .3) (at-loop .inv .5) (none .0);
@@ -79,9 +79,9 @@ returns-2 : tie.Need-returns-2 Inv-loop μ-loop
 returns-2 c =
     let a = c .before .before .before .before .before .before .before .before .args in
     let at-loop = c .before .before .before .before .before .before .loop in
-    let one = subst (λ (r : Listed). ListedIs (a .bars) (now (a .text)) (at-loop .at) r) (c .before .before .before .p .given .1) (c .before .before .before .before .before .listed-at .ensures) in
+    let one = subst (λ (r : Listed). ListedIs (a .kind) (now (a .text)) (at-loop .at) r) (c .before .before .before .p .given .1) (c .before .before .before .before .before .listed-at .ensures) in
     let d = take (at-loop .count) (at-loop .list) in
-    not-accepted (a .bars) (now (a .text)) (a .start) _ (c .refused .ensures)
+    not-accepted (a .kind) (now (a .text)) (a .start) _ (c .refused .ensures)
     (too-many _ d _ (at-loop .inv .3) (at-loop .inv .5) _ _ (one .0) (sized (at-loop .list) (at-loop .count) (at-loop .inv .1) (at-loop .inv .2) ∙ c .before .if1 .taken))
 
 has-preferred-requires : tie.Need-has-preferred-requires Inv-loop μ-loop
@@ -95,9 +95,9 @@ unfolding plmnIn
 returns-3 c =
     let a = c .before .before .before .before .before .before .before .before .before .before .args in
     let at-loop = c .before .before .before .before .before .before .before .before .loop in
-    let one = subst (λ (r : Listed). ListedIs (a .bars) (now (a .text)) (at-loop .at) r) (c .before .before .before .before .before .p .given .1) (c .before .before .before .before .before .before .before .listed-at .ensures) in
+    let one = subst (λ (r : Listed). ListedIs (a .kind) (now (a .text)) (at-loop .at) r) (c .before .before .before .before .before .p .given .1) (c .before .before .before .before .before .before .before .listed-at .ensures) in
     let d = take (at-loop .count) (at-loop .list) in
-    not-accepted (a .bars) (now (a .text)) (a .start) _ (c .refused2 .ensures)
+    not-accepted (a .kind) (now (a .text)) (a .start) _ (c .refused2 .ensures)
     (repeated _ d _ (at-loop .inv .3) (at-loop .inv .5) _ _ (one .0) (sym (c .before .before .has-preferred .ensures) ∙ c .before .if2 .taken))
 
 mul-list : tie.Need-mul-list Inv-loop μ-loop
@@ -113,7 +113,7 @@ loop-less : tie.Need-loop-less Inv-loop μ-loop
 loop-less c =
     let a = c .before .before .before .before .before .before .before .before .before .args in
     let at-loop = c .before .before .before .before .before .before .before .loop in
-    let one = subst (λ (r : Listed). ListedIs (a .bars) (now (a .text)) (at-loop .at) r) (c .before .before .before .before .p .given .1) (c .before .before .before .before .before .before .listed-at .ensures) in
+    let one = subst (λ (r : Listed). ListedIs (a .kind) (now (a .text)) (at-loop .at) r) (c .before .before .before .before .p .given .1) (c .before .before .before .before .before .before .listed-at .ensures) in
     falls (at-loop .at) _ (length (now (a .text))) (one .2) (one .3)
 
 loop-again : tie.Need-loop-again Inv-loop μ-loop
@@ -121,11 +121,11 @@ unfolding plmnIn
 loop-again c =
     let a = c .before .before .before .before .before .before .before .before .before .args in
     let at-loop = c .before .before .before .before .before .before .before .loop in
-    let one = subst (λ (r : Listed). ListedIs (a .bars) (now (a .text)) (at-loop .at) r) (c .before .before .before .before .p .given .1) (c .before .before .before .before .before .before .listed-at .ensures) in
-    let room : at-loop .count < 16 = next (at-loop .count) (at-loop .inv .1) (c .before .before .if1 .left) in
+    let one = subst (λ (r : Listed). ListedIs (a .kind) (now (a .text)) (at-loop .at) r) (c .before .before .before .before .p .given .1) (c .before .before .before .before .before .before .listed-at .ensures) in
+    let room : at-loop .count < maxEntries = next (at-loop .count) (at-loop .inv .1) (c .before .before .if1 .left) in
     let d = take (at-loop .count) (at-loop .list) in
     let p = c .before .before .before .before .p .given .0 .0 in
-    let Y = section (asListed (a .bars)) (entriesFrom (now (a .text)) (c .before .before .before .before .p .given .0 .1 .0)) in
+    let Y = section (asListed (a .kind)) (entriesFrom (now (a .text)) (c .before .before .before .before .p .given .0 .1 .0)) in
     let longer = snoc (at-loop .list) (at-loop .count) p (at-loop .inv .2) room in (
       one .3,
       omega arith,

@@ -27,17 +27,17 @@ returns : tie.Need-returns
 returns c =
     let a = c .before .before .before .before .before .before .args in
     let line = subst (λ (r : TextLine). LineIs (now (a .text)) (a .at) r) (c .before .before .e .given .1) (c .before .before .before .before .line-at .ensures) in
-    line-listed (a .bars) (now (a .text)) (a .at) _ _ (line .0) (line .1) (line .2) (c .of-kind .result) (c .of-kind .ensures .0) (c .of-kind .ensures .1)
+    line-listed (a .kind) (now (a .text)) (a .at) _ _ (line .0) (line .1) (line .2) (c .of-kind .result) (c .of-kind .ensures .0) (c .of-kind .ensures .1)
 
 returns-2 : tie.Need-returns-2
 returns-2 c =
     let a = c .before .before .before .before .args in
-    end-listed (a .bars) (now (a .text)) (a .at) (subst (λ (r : TextLine). LineIs (now (a .text)) (a .at) r) (c .enum-told .given .1) (c .before .before .line-at .ensures) .0)
+    end-listed (a .kind) (now (a .text)) (a .at) (subst (λ (r : TextLine). LineIs (now (a .text)) (a .at) r) (c .enum-told .given .1) (c .before .before .line-at .ensures) .0)
 
 returns-3 : tie.Need-returns-3
 returns-3 c =
     let a = c .before .before .before .before .args in
-    bad-listed (a .bars) (now (a .text)) (a .at) (subst (λ (r : TextLine). LineIs (now (a .text)) (a .at) r) (c .enum-told2 .given .1) (c .before .before .line-at .ensures))
+    bad-listed (a .kind) (now (a .text)) (a .at) (subst (λ (r : TextLine). LineIs (now (a .text)) (a .at) r) (c .enum-told2 .given .1) (c .before .before .line-at .ensures))
 
 pub listed-at-spec : {M : Type 1} → statement M
 listed-at-spec =

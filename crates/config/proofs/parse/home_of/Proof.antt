@@ -24,9 +24,6 @@ enum-told-4 c = search needs
 enum-told-5 : tie.Need-enum-told-5
 enum-told-5 c = search needs
 
-enum-told-6 : tie.Need-enum-told-6
-enum-told-6 c = search needs
-
 returns : tie.Need-returns
 unfolding asHome plmnOption
 returns c = sym (ap asHome (c .before .e .given .1))
@@ -51,10 +48,6 @@ returns-6 : tie.Need-returns-6
 unfolding asHome plmnOption
 returns-6 c = sym (ap asHome (c .enum-told5 .given .1))
 
-returns-7 : tie.Need-returns-7
-unfolding asHome plmnOption
-returns-7 c = sym (ap asHome (c .enum-told6 .given .1))
-
 pub home-of-spec : {M : Type 1} → statement M
 home-of-spec =
     tie.close
@@ -65,11 +58,9 @@ home-of-spec =
     enum-told-3
     enum-told-4
     enum-told-5
-    enum-told-6
     returns
     returns-2
     returns-3
     returns-4
     returns-5
-    returns-6
-    returns-7)
+    returns-6)

@@ -1,14 +1,15 @@
 -- `config::parse::node_at` meets its contract: the line at the place is `node` or is left.
 use Prim.Native.Nat.{ℕ, _≤_}
-use mathlib.Core.Path.{refl, sym, ap, _∙_, subst}
+use mathlib.Core.Path.{sym, ap, _∙_, subst}
 use lib.ListN.{length}
 use denote.Ref.{now}
 use borrow.Author.Needs.{needs}
+use Rattle.entry.specs.Entry.{beforeName}
 use Rattle.config.specs.Branch.{LineIs}
 use Rattle.config.specs.Lines.{entriesFrom}
-use Rattle.config.specs.Settings.{asNode, NodeWithin}
+use Rattle.config.specs.Settings.{NodeWithin}
 use Rattle.config.specs.declared.line.TextLine.{TextLine}
-use Rattle.config.proofs.Wholes.{node-said, node-skipped, skip-within, node-within, no-node}
+use Rattle.config.proofs.Wholes.{node-said, node-skipped, skip-within, node-within, end-no-node, bad-no-node}
 use Rattle.config.proofs.parse.node_at.Statement.{statement}
 use Rattle.config.proofs.parse.node_at.Tie as tie
 
@@ -19,6 +20,7 @@ enum-known-e : tie.Need-enum-known-e
 enum-known-e c = search needs
 
 node-of-requires : tie.Need-node-of-requires
+unfolding beforeName
 node-of-requires c κs = search needs
 
 enum-told : tie.Need-enum-told
@@ -40,17 +42,15 @@ returns c =
     }
 
 returns-2 : tie.Need-returns-2
-unfolding asNode
 returns-2 c =
     let a = c .before .before .before .before .args in
-    let said = no-node (now (a .text)) (a .at) _ refl (subst (λ (r : TextLine). LineIs (now (a .text)) (a .at) r) (c .enum-told .given .1) (c .before .before .line-at .ensures) .0) in
+    let said = end-no-node (now (a .text)) (a .at) (subst (λ (r : TextLine). LineIs (now (a .text)) (a .at) r) (c .enum-told .given .1) (c .before .before .line-at .ensures) .0) in
     record { node-is = said .0; rest-is = said .1; next-within = c .before .before .before .before .pre; name-within = tt }
 
 returns-3 : tie.Need-returns-3
-unfolding asNode
 returns-3 c =
     let a = c .before .before .before .before .args in
-    let said = no-node (now (a .text)) (a .at) _ refl (subst (λ (r : TextLine). LineIs (now (a .text)) (a .at) r) (c .enum-told2 .given .1) (c .before .before .line-at .ensures)) in
+    let said = bad-no-node (now (a .text)) (a .at) (subst (λ (r : TextLine). LineIs (now (a .text)) (a .at) r) (c .enum-told2 .given .1) (c .before .before .line-at .ensures)) in
     record { node-is = said .0; rest-is = said .1; next-within = c .before .before .before .before .pre; name-within = tt }
 
 pub node-at-spec : {M : Type 1} → statement M

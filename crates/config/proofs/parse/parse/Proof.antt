@@ -1,11 +1,10 @@
 -- `config::parse::parse` meets its contract: the first line decides where the rest begins.
-use mathlib.Core.Path.{refl, _∙_, subst}
+use mathlib.Core.Path.{_∙_, subst}
 use denote.Ref.{now}
 use borrow.Author.Needs.{needs}
 use Rattle.config.specs.Branch.{LineIs}
-use Rattle.config.specs.Settings.{asHome}
 use Rattle.config.specs.declared.line.TextLine.{TextLine}
-use Rattle.config.proofs.Wholes.{with-home, no-home}
+use Rattle.config.proofs.Wholes.{with-home, end-no-home, bad-no-home}
 use Rattle.config.proofs.parse.parse.Statement.{statement}
 use Rattle.config.proofs.parse.parse.Tie as tie
 
@@ -36,12 +35,10 @@ returns c =
     (c .with-home .ensures .0 ∙ with-home _ _ _ (line .0) (line .3), c .with-home .ensures .1)
 
 returns-2 : tie.Need-returns-2
-unfolding asHome
-returns-2 c = (c .ill-formed .ensures .0 ∙ no-home _ _ refl (subst (λ (r : TextLine). LineIs (now (c .before .before .before .before .before .args .text)) 0 r) (c .before .enum-told .given .1) (c .before .before .before .line-at .ensures) .0), c .ill-formed .ensures .1 _)
+returns-2 c = (c .ill-formed .ensures .0 ∙ end-no-home _ (subst (λ (r : TextLine). LineIs (now (c .before .before .before .before .before .args .text)) 0 r) (c .before .enum-told .given .1) (c .before .before .before .line-at .ensures) .0), c .ill-formed .ensures .1 _)
 
 returns-3 : tie.Need-returns-3
-unfolding asHome
-returns-3 c = (c .ill-formed2 .ensures .0 ∙ no-home _ _ refl (subst (λ (r : TextLine). LineIs (now (c .before .before .before .before .before .args .text)) 0 r) (c .before .enum-told2 .given .1) (c .before .before .before .line-at .ensures)), c .ill-formed2 .ensures .1 _)
+returns-3 c = (c .ill-formed2 .ensures .0 ∙ bad-no-home _ (subst (λ (r : TextLine). LineIs (now (c .before .before .before .before .before .args .text)) 0 r) (c .before .enum-told2 .given .1) (c .before .before .before .line-at .ensures)), c .ill-formed2 .ensures .1 _)
 
 pub parse-spec : {M : Type 1} → statement M
 parse-spec =

@@ -6,6 +6,7 @@ use denote.Ref.{now}
 use borrow.Author.Needs.{needs}
 use Rattle.network.specs.declared.Plmn.{Plmn}
 use Rattle.network.specs.Plmn.{plmnOption}
+use Rattle.entry.specs.Entry.{beforeName}
 use Rattle.config.specs.Lines.{entriesFrom}
 use Rattle.config.specs.Settings.{asHome, withHome}
 use Rattle.config.proofs.parse.with_home.Statement.{statement}
@@ -28,7 +29,7 @@ unfolding withHome plmnOption
 returns c =
     let a = c .before .before .before .before .before .args in
     let nothing : asHome (a .e) ≡ none = sym (c .before .before .before .home-of .ensures) ∙ ap plmnOption (c .before .enum-told .given .1) in
-    (c .ill-formed .ensures .0 ∙ sym (ap (λ (o : Option Plmn). withHome o (a .at + 10) (entriesFrom (now (a .text)) (a .at))) nothing), c .ill-formed .ensures .1 _)
+    (c .ill-formed .ensures .0 ∙ sym (ap (λ (o : Option Plmn). withHome o (a .at + beforeName) (entriesFrom (now (a .text)) (a .at))) nothing), c .ill-formed .ensures .1 _)
 
 settled-requires : tie.Need-settled-requires
 settled-requires c κs = search needs
@@ -38,7 +39,7 @@ unfolding withHome plmnOption
 returns-2 c =
     let a = c .before .before .before .before .before .before .args in
     let said : asHome (a .e) ≡ some (c .before .before .home .given .0 .0) = sym (c .before .before .before .before .home-of .ensures) ∙ ap plmnOption (c .before .before .home .given .1) in
-    (c .settled .ensures .0 ∙ sym (ap (λ (o : Option Plmn). withHome o (a .at + 10) (entriesFrom (now (a .text)) (a .at))) said), c .settled .ensures .1)
+    (c .settled .ensures .0 ∙ sym (ap (λ (o : Option Plmn). withHome o (a .at + beforeName) (entriesFrom (now (a .text)) (a .at))) said), c .settled .ensures .1)
 
 pub with-home-spec : {M : Type 1} → statement M
 with-home-spec =
