@@ -45,7 +45,7 @@ settingsIn c = record {
 abbrev pub maxEntries : ℕ
 maxEntries = 16
 
--- no more than that, and no PLMN twice
+-- at most so many entries of a kind, and no PLMN twice
 unfoldable pub accepted : List Plmn → Bool
 accepted ps = leb (length ps) maxEntries && distinct samePlmn ps
 
@@ -78,38 +78,44 @@ asListed Kind.Plmn (Bar p) = none
 asListed Kind.Bar (Bar p) = some (record { plmn = p; priority = 0 })
 asListed kind Bad = none
 
--- the entries of one kind at the start of a list, and what follows them
+-- entries that follow one another, each of which says something of a sort
 module _ {A : Type 0} where
+  -- an entry that says nothing of the sort ends them
   unfoldable pub taken : Option A → List A → List A
   taken none xs = []
   taken (some a) xs = a ∷ xs
 
+  -- what the entries at the start of a list say
   unfoldable pub section : (Entry → Option A) → List Entry → List A
-  section kind [] = []
-  section kind (e ∷ es) = taken (kind e) (section kind es)
+  section say [] = []
+  section say (e ∷ es) = taken (say e) (section say es)
 
+  -- an entry that says nothing of the sort is left
   unfoldable pub left : Option A → List Entry → List Entry → List Entry
   left none all after = all
   left (some a) all after = after
 
+  -- what follows those at the start of a list
   unfoldable pub rest : (Entry → Option A) → List Entry → List Entry
-  rest kind [] = []
-  rest kind (e ∷ es) = left (kind e) (e ∷ es) (rest kind es)
+  rest say [] = []
+  rest say (e ∷ es) = left (say e) (e ∷ es) (rest say es)
 
 -- the text ends where no entry follows
 unfoldable pub isEnd : List Entry → Bool
 isEnd [] = true
 isEnd (e ∷ es) = false
 
--- `node` at the start of a list of entries, and what follows it
+-- a text may have no `node`
 unfoldable pub nodeOr : Option Node → Node
 nodeOr none = Node.None
 nodeOr (some n) = n
 
+-- `node` at the start of a list of entries
 unfoldable pub firstNode : ℕ → List Entry → Node
 firstNode at [] = Node.None
 firstNode at (e ∷ es) = nodeOr (asNode at e)
 
+-- what follows it
 unfoldable pub afterNode : ℕ → List Entry → List Entry
 afterNode at [] = []
 afterNode at (e ∷ es) = left (asNode at e) (e ∷ es) es
@@ -128,6 +134,7 @@ unfoldable pub withHome : Option Plmn → ℕ → List Entry → Option Settings
 withHome none at es = none
 withHome (some h) at es = settle h (firstNode at es) (afterNode at es)
 
+-- a text without entries has no `home`
 unfoldable pub fromHome : ℕ → List Entry → Option Settings
 fromHome at [] = none
 fromHome at (e ∷ es) = withHome (asHome e) at es
