@@ -62,11 +62,11 @@ module _ (p : Phase) where
   calm-owed e = not-live (λ q. isSome (owed (turnIn q))) (λ a. refl) p e
 
 -- an event that isn't refused is allowed in its phase
-allowed-by : (b a : Bool) (rs : List Refusal) → refusal ((8 when b) ∷ unless a ∷ rs) ≡ 0 → a ≡ true
+pub allowed-by : (b a : Bool) (rs : List Refusal) → refusal ((8 when b) ∷ unless a ∷ rs) ≡ 0 → a ≡ true
 unfolding unless
 allowed-by b a rs e = not-false a (refusal-step 9 (not a) rs (refusal-step 7 b ((10 when not a) ∷ rs) e .1) .0)
 
-allowed-then : (b c a : Bool) (rs : List Refusal) → refusal ((8 when b) ∷ (9 when c) ∷ unless a ∷ rs) ≡ 0 → a ≡ true
+pub allowed-then : (b c a : Bool) (rs : List Refusal) → refusal ((8 when b) ∷ (9 when c) ∷ unless a ∷ rs) ≡ 0 → a ≡ true
 unfolding unless
 allowed-then b c a rs e =
     not-false a (refusal-step 9 (not a) rs (refusal-step 8 c ((10 when not a) ∷ rs) (refusal-step 7 b ((9 when c) ∷ (10 when not a) ∷ rs) e .1) .1) .0)

@@ -1,10 +1,13 @@
 -- The proofs of the claims.
 pub mod Accepted
 pub mod Acts
+pub mod After
+pub mod Authenticated
 pub mod Children
 pub mod Current
 pub mod Eap
 pub mod Ends
+pub mod Goes
 pub mod Isolation
 pub mod Keeps
 pub mod Moves
@@ -15,5 +18,6 @@ pub mod Runs
 pub mod Selecting
 pub mod Timed
 pub mod Tunnels
+pub mod Untouched
 pub mod Valid
 pub mod Views

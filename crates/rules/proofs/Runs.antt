@@ -80,16 +80,12 @@ module _ (tenant line : ℕ) (l : List ℕ) (good : Good l) (e : numberGiven (cl
   closes : number c l ≡ 0
   closes = sym (given-is c l) ∙ e
 
-  pub closed-zero : (slot (run c l .table) (recordOf l (pairOf tenant line)) ≡ zeros recordLength)
-      × ((j : ℕ) → (j ≡ recordOf l (pairOf tenant line) → ⊥) → slot (run c l .table) j ≡ slot l j)
+  pub closed-zero : slot (run c l .table) (recordOf l (pairOf tenant line)) ≡ zeros 243
   unfolding stepOf step applied slotOctets isOctets lentOctets allOf
   closed-zero =
       let p = pairOf tenant line in
       let r = ready c l refl good closes in
-      let storable = Stored.storable Free (r .1) in (
-        ap (λ (x : Result). slot (x .table) (recordOf l p)) (accepted c l closes) ∙ Stored.put-here l p Free (good .sound) (r .0) storable,
-        λ j apart. ap (λ (x : Result). slot (x .table) j) (accepted c l closes) ∙ Stored.put-others l p Free (good .sound) (r .0) storable j apart,
-      )
+      ap (λ (x : Result). slot (x .table) (recordOf l p)) (accepted c l closes) ∙ Stored.put-here l p Free (good .sound) (r .0) (Stored.storable Free (r .1))
 
 -- opening
 module _ (tenant line : ℕ) (l : List ℕ) (good : Good l) (e : numberGiven (opening tenant line) l ≡ 0) where

@@ -12,7 +12,6 @@ use Rattle.octets.specs.Refusal.{Applies}
 use Rattle.octets.specs.Row.{only, row}
 use Rattle.octets.specs.Search.{allOf}
 use Rattle.address.specs.Address.{heldAddresses}
-use Rattle.children.specs.declared.Child.{Child}
 use Rattle.config.specs.Settings.{Settings, configOf}
 use Rattle.lists.specs.Lists.{addressesIn, networksIn}
 use Rattle.phase.specs.Stage.{isIn}
@@ -24,9 +23,10 @@ use Rattle.response.specs.Laws as Response
 use Rattle.selection.specs.Selection as Selection
 use Rattle.selection.specs.Stops.{Ends, Exactly, addresses, countryReached, startReached}
 use Rattle.table.specs.Slots.{isOpen, lineAt, slotsOf}
-use Rattle.table.specs.Table.{isTable, recordOf, slot, tableLength}
+use Rattle.table.specs.Table.{isTable, recordOf, slot}
+use Rattle.rules.specs.After.{After, LiveBy, SureBy, ownRecord}
 use Rattle.rules.specs.Answer.{Answer, eventRoom}
-use Rattle.rules.specs.Call.{StartNumbers, Event, start, country, address, begin, init, eap, reply, final, error, congestion, give-up, child-made, child-deleted, ike-delete, Call, opening, closing, listing, timed, factsOf, pairOf}
+use Rattle.rules.specs.Call.{StartNumbers, Event, start, country, address, child-made, child-deleted, Call, opening, closing, listing, timed, factsOf, pairOf}
 use Rattle.rules.specs.Histories.{answersTo, isOctets, remaining}
 use Rattle.rules.specs.Life.{current, isOther, outcome, withChildren}
 use Rattle.rules.specs.Listing.{listFrom}
@@ -73,23 +73,6 @@ lineIn l tenant line = lineAt (pairOf tenant line) (slotsOf l)
 unfoldable pub stopSaid : Answer → Option ℕ
 stopSaid a = cond (eqb (getD (a .numbers) 0 0) 1) (some (getD (a .numbers) 1 0)) none
 
--- the children after an event: one more for each child made, one less for each deleted, none after an IKE delete
-unfoldable pub childrenAfter : Event → List Child → List Child
-childrenAfter (start g text room) cs = cs
-childrenAfter (country replied networks text room) cs = cs
-childrenAfter (address list) cs = cs
-childrenAfter begin cs = cs
-childrenAfter init cs = cs
-childrenAfter (eap packet) cs = cs
-childrenAfter (reply parameters nas room) cs = cs
-childrenAfter (final good) cs = cs
-childrenAfter (error number) cs = cs
-childrenAfter (congestion authenticated timer) cs = cs
-childrenAfter give-up cs = cs
-childrenAfter (child-made spi session) cs = cs ++ record { spi = spi; session = session } ∷ []
-childrenAfter (child-deleted spi) cs = only (isOther spi) cs
-childrenAfter ike-delete cs = []
-
 -- an accepted timed call on a line of a sound table
 pub record Timed (tenant line time : ℕ) (e : Event) (l : List ℕ) (x : Line) : Type 0 where
   pub octets : isOctets (timed tenant line time e) ≡ true
@@ -126,9 +109,8 @@ pub record Claims : Type 0 where
   pub stops-address : (tenant line time : ℕ) (list : List ℕ) (l : List ℕ) (x : Line) (s : Settings) (f : Facts)
       → Timed tenant line time (address list) l x → factsIn (x .phase) ≡ some f
       → Exactly (Ends s (f .version) (heldAddresses (current time x .holds)) (addresses (addressesIn list))) (stopSaid (run (timed tenant line time (address list)) l .answer))
-  -- children stand only on a live line, and only a child made adds one
-  pub tunnels-live : (tenant line : ℕ) (l : List ℕ) (x : Line) → Good l → lineIn l tenant line ≡ some x → isIn Stage.live (x .phase) ≡ false → x .children ≡ []
-  pub tunnels-after : (e : Event) (x : Line) → outcome e x .line .children ≡ childrenAfter e (x .children)
+  -- children stand only on a live line
+  pub tunnels-live : (tenant line : ℕ) (l : List ℕ) (x : Line) → Good l → lineIn l tenant line ≡ some x → isIn "live" (x .phase) ≡ false → x .children ≡ []
   -- an accepted child made adds that one at the end of a live line and changes nothing else of the line as the call finds it
   pub tunnels-made : (tenant line time spi session : ℕ) (l : List ℕ) (x : Line) → Timed tenant line time (child-made spi session) l x
       → (isIn Stage.live (x .phase) ≡ true)
@@ -138,12 +120,24 @@ pub record Claims : Type 0 where
   pub tunnels-deleted : (tenant line time spi : ℕ) (l : List ℕ) (x : Line) → Timed tenant line time (child-deleted spi) l x
       → (lineIn (run (timed tenant line time (child-deleted spi)) l .table) tenant line ≡ some (withChildren (current time x) (only (isOther spi) (x .children))))
       × (suc (length (only (isOther spi) (x .children))) ≡ length (x .children))
+  -- whatever the call, a line is live only if it was or is now authenticated, and sure only if it was or EAP now succeeded
+  pub live-authenticated : (c : Call) (l : List ℕ) (tenant line : ℕ) (y : Line) → isOctets c ≡ true → Good l → line ≤ 3
+      → lineIn (run c l .table) tenant line ≡ some y → isIn "live" (y .phase) ≡ true → LiveBy c tenant line (lineIn l tenant line)
+  pub sure-succeeded : (c : Call) (l : List ℕ) (tenant line : ℕ) (y : Line) → isOctets c ≡ true → Good l → line ≤ 3
+      → lineIn (run c l .table) tenant line ≡ some y → isIn "sure" (y .phase) ≡ true → SureBy c tenant line (lineIn l tenant line)
+  -- an accepted timed call stores its time and drops the ended holds; only congestion adds a hold, only a child made adds a child
+  pub timed-after : (tenant line time : ℕ) (e : Event) (l : List ℕ) (x : Line) → Timed tenant line time e l x
+      → After e time x (lineIn (run (timed tenant line time e) l .table) tenant line)
+  -- every record but the call's own has its octets, a listing leaves all, and the table keeps its length
+  pub others-untouched : (c : Call) (l : List ℕ) → isOctets c ≡ true → Good l
+      → (j : ℕ) → (ownRecord c l ≡ some j → ⊥) → slot (run c l .table) j ≡ slot l j
+  pub listing-leaves : (tenant room : ℕ) (l : List ℕ) → run (listing tenant room) l .table ≡ l
+  pub length-kept : (c : Call) (l : List ℕ) → length (run c l .table) ≡ length l
   -- writing and reading NAS responses undo each other
   pub eap-round : Response.Laws
-  -- after an accepted close the pair's record is zeros and every other record has its octets
+  -- after an accepted close the pair's record is zeros
   pub closed-zero : (tenant line : ℕ) (l : List ℕ) → Good l → numberGiven (closing tenant line) l ≡ 0
-      → (slot (run (closing tenant line) l .table) (recordOf l (pairOf tenant line)) ≡ zeros recordLength)
-      × ((j : ℕ) → (j ≡ recordOf l (pairOf tenant line) → ⊥) → slot (run (closing tenant line) l .table) j ≡ slot l j)
+      → slot (run (closing tenant line) l .table) (recordOf l (pairOf tenant line)) ≡ zeros 243
   -- a line just opened is idle with no child, no hold and time 0, whatever the table was
   pub taken-over-clean : (tenant line : ℕ) (l : List ℕ) → Good l → numberGiven (opening tenant line) l ≡ 0
       → lineIn (run (opening tenant line) l .table) tenant line ≡ some fresh

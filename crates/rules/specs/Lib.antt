@@ -17,4 +17,5 @@ pub mod RefusalExamples
 pub mod FormExamples
 pub mod HoldExamples
 pub mod Starred
+pub mod After
 pub mod Claims

@@ -2,11 +2,14 @@
 use Rattle.response.proofs.Round.{write-read, read-write}
 use Rattle.response.proofs.Writing.{accepted, response-fits}
 use Rattle.rules.specs.Starred.{computed}
+use Rattle.rules.proofs.After.{timed-after}
+use Rattle.rules.proofs.Authenticated.{live-authenticated, sure-succeeded}
 use Rattle.rules.proofs.Isolation.{empty-good, isolation, isolation-from}
 use Rattle.rules.proofs.Refused.{refusal-leaves, refusal-lowest, refusal-none, refusal-range}
 use Rattle.rules.proofs.Runs.{closed-zero, run-slots, run-sound, taken-over-clean, taken-over-listed}
 use Rattle.rules.proofs.Timed.{stops-address, stops-country, stops-start, timed-run}
-use Rattle.rules.proofs.Tunnels.{tunnels-after, tunnels-deleted, tunnels-live, tunnels-made}
+use Rattle.rules.proofs.Tunnels.{tunnels-deleted, tunnels-live, tunnels-made}
+use Rattle.rules.proofs.Untouched.{length-kept, listing-leaves, others-untouched}
 use Rattle.rules.proofs.claims.Statement.{statement}
 use Rattle.rules.proofs.claims.Tie as tie
 
@@ -24,9 +27,14 @@ returns c = record {
   stops-country = λ tenant line time replied networks text room l x s f t q e. stops-country tenant line time l x s f e replied networks text room t q;
   stops-address = λ tenant line time list l x s f t e. stops-address tenant line time l x s f e list t;
   tunnels-live = tunnels-live;
-  tunnels-after = tunnels-after;
   tunnels-made = λ tenant line time spi session l x t. tunnels-made tenant line time spi l x session t;
   tunnels-deleted = tunnels-deleted;
+  live-authenticated = live-authenticated;
+  sure-succeeded = sure-succeeded;
+  timed-after = timed-after;
+  others-untouched = others-untouched;
+  listing-leaves = listing-leaves;
+  length-kept = length-kept;
   eap-round = record {
     write-read = λ i p n room e. write-read i p n room (accepted i p n room e);
     read-write = read-write;

@@ -1,0 +1,84 @@
+-- What an accepted timed call leaves of the line's time, holds and children.
+use Prim.Native.Nat.{ℕ}
+use mathlib.Core.Bool.{Bool, true, false}
+use mathlib.Core.List.{List, [], _++_, append-nil}
+use mathlib.Core.Path.{_≡_, refl, sym, ap, _∙_}
+use lib.Dec.{eqb}
+use Rattle.address.specs.declared.Hold.{Hold}
+use Rattle.config.specs.Settings.{configOf}
+use Rattle.eap.specs.Packet.{readPacket}
+use Rattle.eap.specs.declared.Packet.{Packet}
+use Rattle.eap.specs.declared.Packet.the-variants.{Start, NasRequest, Success, NasResponse, Stop, Other}
+use Rattle.lists.specs.Lists.{addressesIn, networksIn}
+use Rattle.record.specs.Line.{Line}
+use Rattle.selection.specs.Selection as Selection
+use Rattle.rules.specs.After.{After, childrenAfter, holdAdded}
+use Rattle.rules.specs.Call.{Event, start, country, address, begin, init, eap, reply, final, error, congestion, give-up, child-made, child-deleted, ike-delete, timed, factsOf}
+use Rattle.rules.specs.Claims.{Timed, lineIn}
+use Rattle.rules.specs.Life.{becomes, congested, current, finished, goes, inPhase, keeps, outcome, packetTaken, withChildren}
+use Rattle.rules.specs.Phases.{factsIn, owed, turnIn}
+use Rattle.rules.specs.Run.{run}
+use Rattle.rules.proofs.Goes.{addressed-goes, answered-goes, replied-goes, started-goes}
+use Rattle.rules.proofs.Timed.{timed-run}
+
+-- an event's line beside the one that the call finds
+record Step (e : Event) (x y : Line) : Type 0 where
+  time : y .time ≡ x .time
+  holds : y .holds ≡ x .holds ++ holdAdded e (x .time) (x .phase)
+  children : y .children ≡ childrenAfter e (x .children)
+
+-- an event that changes only the phase
+by-phase : (e : Event) (x y : Line) → y ≡ inPhase x (y .phase) → holdAdded e (x .time) (x .phase) ≡ [] → childrenAfter e (x .children) ≡ x .children → Step e x y
+unfolding inPhase
+by-phase e x y q none same = record {
+  time = ap (λ (z : Line). z .time) q;
+  holds = ap (λ (z : Line). z .holds) q ∙ sym (ap (λ (hs : List Hold). x .holds ++ hs) none ∙ append-nil (x .holds));
+  children = ap (λ (z : Line). z .children) q ∙ sym same;
+}
+
+module _ (x : Line) where
+  packet-phase : (packet : List ℕ) (p : Packet) → packetTaken x packet p .line ≡ inPhase x (packetTaken x packet p .line .phase)
+  unfolding packetTaken keeps goes inPhase
+  packet-phase packet (Start i) = refl
+  packet-phase packet (NasRequest i at n) = refl
+  packet-phase packet (Success i) = refl
+  packet-phase packet (NasResponse i p m at n) = refl
+  packet-phase packet (Stop i) = refl
+  packet-phase packet Other = refl
+
+  finished-phase : (b : Bool) → finished x b .line ≡ inPhase x (finished x b .line .phase)
+  unfolding finished keeps goes inPhase
+  finished-phase true = refl
+  finished-phase false = refl
+
+  -- one clause for each row of the table
+  steps : (e : Event) → Step e x (outcome e x .line)
+  unfolding outcome holdAdded childrenAfter keeps goes inPhase becomes congested withChildren
+  steps (start g t room) = by-phase (start g t room) x _ (started-goes x (factsOf g) t (configOf t) .only-phase) refl refl
+  steps (country n networks t room) =
+      by-phase (country n networks t room) x _ (answered-goes x (factsIn (x .phase)) (Selection.countryReply (eqb n 1) (networksIn networks)) t (configOf t) .only-phase) refl refl
+  steps (address list) = by-phase (address list) x _ (addressed-goes x (factsIn (x .phase)) (addressesIn list) .only-phase) refl refl
+  steps begin = by-phase begin x _ refl refl refl
+  steps init = by-phase init x _ refl refl refl
+  steps (eap packet) = by-phase (eap packet) x _ (packet-phase packet (readPacket packet)) refl refl
+  steps (reply parameters nas room) = by-phase (reply parameters nas room) x _ (replied-goes x parameters nas (owed (turnIn (x .phase))) .only-phase) refl refl
+  steps (final good) = by-phase (final good) x _ (finished-phase (eqb good 1)) refl refl
+  steps (error number) = by-phase (error number) x _ refl refl refl
+  steps (congestion authenticated timer) = record { time = refl; holds = refl; children = refl }
+  steps give-up = by-phase give-up x _ refl refl refl
+  steps (child-made spi session) = record { time = refl; holds = sym (append-nil (x .holds)); children = refl }
+  steps (child-deleted spi) = record { time = refl; holds = sym (append-nil (x .holds)); children = refl }
+  steps ike-delete = record { time = refl; holds = sym (append-nil (x .holds)); children = refl }
+
+pub timed-after : (tenant line time : ℕ) (e : Event) (l : List ℕ) (x : Line) → Timed tenant line time e l x
+    → After e time x (lineIn (run (timed tenant line time e) l .table) tenant line)
+unfolding current
+timed-after tenant line time e l x t =
+    let s = steps (current time x) e in
+    record {
+      line = outcome e (current time x) .line;
+      stands = timed-run tenant line time e l x t .1;
+      time = s .time;
+      holds = s .holds;
+      children = s .children;
+    }
