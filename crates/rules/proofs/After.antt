@@ -1,9 +1,12 @@
 -- What an accepted timed call leaves of the line's time, holds and children.
-use Prim.Native.Nat.{ℕ}
-use mathlib.Core.Bool.{Bool, true, false}
-use mathlib.Core.List.{List, [], _++_, append-nil}
+use Prim.Native.Nat.{ℕ, _+_, _*_, _/_, _%_}
+use mathlib.Core.Bool.{Bool, true, false, cond}
+use mathlib.Core.List.{List, [], _∷_, _++_, append-nil}
+use mathlib.Core.Option.{Option, none, some}
 use mathlib.Core.Path.{_≡_, refl, sym, ap, _∙_}
 use lib.Dec.{eqb}
+use Rattle.address.specs.declared.Address.{Address}
+use Rattle.address.specs.declared.End.the-variants.{At, Never}
 use Rattle.address.specs.declared.Hold.{Hold}
 use Rattle.config.specs.Settings.{configOf}
 use Rattle.eap.specs.Packet.{readPacket}
@@ -11,15 +14,33 @@ use Rattle.eap.specs.declared.Packet.{Packet}
 use Rattle.eap.specs.declared.Packet.the-variants.{Start, NasRequest, Success, NasResponse, Stop, Other}
 use Rattle.lists.specs.Lists.{addressesIn, networksIn}
 use Rattle.record.specs.Line.{Line}
+use Rattle.record.specs.Sound.{chosen}
 use Rattle.selection.specs.Selection as Selection
-use Rattle.rules.specs.After.{After, childrenAfter, holdAdded}
+use Rattle.timer.specs.Timer.{timerOf, unitSeconds}
+use Rattle.timer.specs.declared.Timer.the-variants as Timer
+use Rattle.rules.specs.After.{After, childrenAfter, congestionHold, holdAdded}
 use Rattle.rules.specs.Call.{Event, start, country, address, begin, init, eap, reply, final, error, congestion, give-up, child-made, child-deleted, ike-delete, timed, factsOf}
 use Rattle.rules.specs.Claims.{Timed, lineIn}
-use Rattle.rules.specs.Life.{becomes, congested, current, finished, goes, inPhase, keeps, outcome, packetTaken, withChildren}
+use Rattle.rules.specs.Life.{becomes, chosenHold, congested, current, finished, goes, inPhase, keeps, outcome, packetTaken, timerHold, withChildren}
 use Rattle.rules.specs.Phases.{factsIn, owed, turnIn}
 use Rattle.rules.specs.Run.{run}
 use Rattle.rules.proofs.Goes.{addressed-goes, answered-goes, replied-goes, started-goes}
 use Rattle.rules.proofs.Timed.{timed-run}
+
+-- the timer octet sets the hold that its unit and count say
+timer-hold : (time octet : ℕ) (o : Option Address) → chosenHold time (timerOf octet) o ≡ congestionHold time octet o
+unfolding chosenHold timerHold timerOf congestionHold
+timer-hold time octet none = refl
+timer-hold time octet (some a) = go (eqb (octet / 32) 7) (eqb (octet % 32) 0)
+  where
+    seconds : ℕ
+    seconds = octet % 32 * unitSeconds (octet / 32)
+
+    go : (b c : Bool) → timerHold time (cond b Timer.Deactivated (cond c Timer.None (Timer.Seconds seconds))) a
+        ≡ cond b (record { address = a; end = Never } ∷ []) (cond c [] (record { address = a; end = At (time + seconds) } ∷ []))
+    go true c = refl
+    go false true = refl
+    go false false = refl
 
 -- an event's line beside the one that the call finds
 record Step (e : Event) (x y : Line) : Type 0 where
@@ -30,9 +51,9 @@ record Step (e : Event) (x y : Line) : Type 0 where
 -- an event that changes only the phase
 by-phase : (e : Event) (x y : Line) → y ≡ inPhase x (y .phase) → holdAdded e (x .time) (x .phase) ≡ [] → childrenAfter e (x .children) ≡ x .children → Step e x y
 unfolding inPhase
-by-phase e x y q none same = record {
+by-phase e x y q adds same = record {
   time = ap (λ (z : Line). z .time) q;
-  holds = ap (λ (z : Line). z .holds) q ∙ sym (ap (λ (hs : List Hold). x .holds ++ hs) none ∙ append-nil (x .holds));
+  holds = ap (λ (z : Line). z .holds) q ∙ sym (ap (λ (hs : List Hold). x .holds ++ hs) adds ∙ append-nil (x .holds));
   children = ap (λ (z : Line). z .children) q ∙ sym same;
 }
 
@@ -62,9 +83,9 @@ module _ (x : Line) where
   steps init = by-phase init x _ refl refl refl
   steps (eap packet) = by-phase (eap packet) x _ (packet-phase packet (readPacket packet)) refl refl
   steps (reply parameters nas room) = by-phase (reply parameters nas room) x _ (replied-goes x parameters nas (owed (turnIn (x .phase))) .only-phase) refl refl
-  steps (final good) = by-phase (final good) x _ (finished-phase (eqb good 1)) refl refl
+  steps (final good) = by-phase (final good) x _ (finished-phase _) refl refl
   steps (error number) = by-phase (error number) x _ refl refl refl
-  steps (congestion authenticated timer) = record { time = refl; holds = refl; children = refl }
+  steps (congestion authenticated timer) = record { time = refl; holds = ap (λ (hs : List Hold). x .holds ++ hs) (timer-hold (x .time) timer (chosen (x .phase))); children = refl }
   steps give-up = by-phase give-up x _ refl refl refl
   steps (child-made spi session) = record { time = refl; holds = sym (append-nil (x .holds)); children = refl }
   steps (child-deleted spi) = record { time = refl; holds = sym (append-nil (x .holds)); children = refl }

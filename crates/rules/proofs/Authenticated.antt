@@ -77,7 +77,7 @@ module _ (x : Line) where
   leads init = early (onward-early Auth (λ a. record { not-sure = refl; not-live = refl }) (chosen (x .phase)))
   leads (eap packet) = packet-leads packet (readPacket packet) refl
   leads (reply parameters nas room) = early (replied-goes x parameters nas (owed (turnIn (x .phase))) .early)
-  leads (final good) = finished-leads good (eqb good 1) refl
+  leads (final good) = finished-leads good _ refl
   leads (error number) = early idle-early
   leads (congestion authenticated timer) = early idle-early
   leads give-up = early idle-early

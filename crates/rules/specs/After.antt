@@ -1,10 +1,13 @@
 -- What a call leaves: how a line comes to be sure and live, its time, holds and children, and the one record that the call may change.
-use Prim.Native.Nat.{ℕ}
-use mathlib.Core.Bool.{true}
+use Prim.Native.Nat.{ℕ, _+_, _*_, _/_, _%_}
+use mathlib.Core.Bool.{true, cond}
 use mathlib.Core.List.{List, [], _∷_, _++_}
 use mathlib.Core.Option.{Option, none, some}
 use mathlib.Core.Path.{_≡_}
+use lib.Dec.{eqb}
 use Rattle.octets.specs.Row.{only}
+use Rattle.address.specs.declared.Address.{Address}
+use Rattle.address.specs.declared.End.the-variants.{At, Never}
 use Rattle.address.specs.declared.Hold.{Hold}
 use Rattle.children.specs.declared.Child.{Child}
 use Rattle.eap.specs.Packet.{readPacket}
@@ -14,9 +17,9 @@ use Rattle.phase.specs.declared.Phase.{Phase}
 use Rattle.record.specs.Line.{Line}
 use Rattle.record.specs.Sound.{chosen}
 use Rattle.table.specs.Table.{recordOf}
-use Rattle.timer.specs.Timer.{timerOf}
+use Rattle.timer.specs.Timer.{unitSeconds}
 use Rattle.rules.specs.Call.{Event, start, country, address, begin, init, eap, reply, final, error, congestion, give-up, child-made, child-deleted, ike-delete, Call, opening, closing, listing, timed, pairOf}
-use Rattle.rules.specs.Life.{chosenHold, isOther}
+use Rattle.rules.specs.Life.{isOther}
 use Rattle.rules.specs.Phases.{isIn, lastReply, turnIn}
 
 -- opening takes a free record, closing and events change that of their pair, a listing none
@@ -37,7 +40,16 @@ pub data LiveBy (c : Call) (tenant line : ℕ) : Option Line → Type 0 where
   was-live : (x : Line) → isIn "live" (x .phase) ≡ true → LiveBy c tenant line (some x)
   auth-good : (x : Line) (time : ℕ) → c ≡ timed tenant line time (final 1) → isIn "sure" (x .phase) ≡ true → LiveBy c tenant line (some x)
 
--- the hold that an event at a time adds to a line in a phase: congestion holds the chosen address by the timer octet, nothing else adds one
+-- hold by timer of the chosen address: without end at unit 7, else none at count 0, else until time plus count times unit
+unfoldable pub congestionHold : ℕ → ℕ → Option Address → List Hold
+congestionHold time octet none = []
+congestionHold time octet (some a) =
+    let unit = octet / 32 in
+    let count = octet % 32 in
+    cond (eqb unit 7) (record { address = a; end = Never } ∷ [])
+    (cond (eqb count 0) [] (record { address = a; end = At (time + count * unitSeconds unit) } ∷ []))
+
+-- the hold that an event at a time adds to a line in a phase: that of congestion, and no other
 unfoldable pub holdAdded : Event → ℕ → Phase → List Hold
 holdAdded (start g text room) time p = []
 holdAdded (country replied networks text room) time p = []
@@ -48,7 +60,7 @@ holdAdded (eap packet) time p = []
 holdAdded (reply parameters nas room) time p = []
 holdAdded (final good) time p = []
 holdAdded (error number) time p = []
-holdAdded (congestion authenticated timer) time p = chosenHold time (timerOf timer) (chosen p)
+holdAdded (congestion authenticated timer) time p = congestionHold time timer (chosen p)
 holdAdded give-up time p = []
 holdAdded (child-made spi session) time p = []
 holdAdded (child-deleted spi) time p = []
