@@ -3,7 +3,7 @@ use Prim.Native.Nat.{ℕ, _+_, _*_, _/_, _%_}
 use mathlib.Core.Bool.{Bool, true, false, cond}
 use mathlib.Core.List.{List, [], _∷_, _++_, append-nil}
 use mathlib.Core.Option.{Option, none, some}
-use mathlib.Core.Path.{_≡_, refl, sym, ap, _∙_}
+use mathlib.Core.Path.{_≡_, refl, sym, ap, _∙_, subst}
 use lib.Dec.{eqb}
 use Rattle.address.specs.declared.Address.{Address}
 use Rattle.address.specs.declared.End.the-variants.{At, Never}
@@ -48,16 +48,17 @@ record Step (e : Event) (x y : Line) : Type 0 where
   holds : y .holds ≡ x .holds ++ holdAdded e (x .time) (x .phase)
   children : y .children ≡ childrenAfter e (x .children)
 
--- an event that changes only the phase
-by-phase : (e : Event) (x y : Line) → y ≡ inPhase x (y .phase) → holdAdded e (x .time) (x .phase) ≡ [] → childrenAfter e (x .children) ≡ x .children → Step e x y
-unfolding inPhase
-by-phase e x y q adds same = record {
-  time = ap (λ (z : Line). z .time) q;
-  holds = ap (λ (z : Line). z .holds) q ∙ sym (ap (λ (hs : List Hold). x .holds ++ hs) adds ∙ append-nil (x .holds));
-  children = ap (λ (z : Line). z .children) q ∙ sym same;
-}
-
 module _ (x : Line) where
+  -- an event that changes only the phase
+  by-phase : (e : Event) → outcome e x .line ≡ inPhase x (outcome e x .line .phase) → holdAdded e (x .time) (x .phase) ≡ [] → childrenAfter e (x .children) ≡ x .children
+      → Step e x (outcome e x .line)
+  unfolding inPhase
+  by-phase e q adds same = record {
+    time = ap (λ (z : Line). z .time) q;
+    holds = ap (λ (z : Line). z .holds) q ∙ sym (ap (λ (hs : List Hold). x .holds ++ hs) adds ∙ append-nil (x .holds));
+    children = ap (λ (z : Line). z .children) q ∙ sym same;
+  }
+
   packet-phase : (packet : List ℕ) (p : Packet) → packetTaken x packet p .line ≡ inPhase x (packetTaken x packet p .line .phase)
   unfolding packetTaken keeps goes inPhase
   packet-phase packet (Start i) = refl
@@ -75,31 +76,33 @@ module _ (x : Line) where
   -- one clause for each row of the table
   steps : (e : Event) → Step e x (outcome e x .line)
   unfolding outcome holdAdded childrenAfter keeps goes inPhase becomes congested withChildren
-  steps (start g t room) = by-phase (start g t room) x _ (started-goes x (factsOf g) t (configOf t) .only-phase) refl refl
+  steps (start g t room) = by-phase (start g t room) (started-goes x (factsOf g) t (configOf t) .only-phase) refl refl
   steps (country n networks t room) =
-      by-phase (country n networks t room) x _ (answered-goes x (factsIn (x .phase)) (Selection.countryReply (eqb n 1) (networksIn networks)) t (configOf t) .only-phase) refl refl
-  steps (address list) = by-phase (address list) x _ (addressed-goes x (factsIn (x .phase)) (addressesIn list) .only-phase) refl refl
-  steps begin = by-phase begin x _ refl refl refl
-  steps init = by-phase init x _ refl refl refl
-  steps (eap packet) = by-phase (eap packet) x _ (packet-phase packet (readPacket packet)) refl refl
-  steps (reply parameters nas room) = by-phase (reply parameters nas room) x _ (replied-goes x parameters nas (owed (turnIn (x .phase))) .only-phase) refl refl
-  steps (final good) = by-phase (final good) x _ (finished-phase _) refl refl
-  steps (error number) = by-phase (error number) x _ refl refl refl
-  steps (congestion authenticated timer) = record { time = refl; holds = ap (λ (hs : List Hold). x .holds ++ hs) (timer-hold (x .time) timer (chosen (x .phase))); children = refl }
-  steps give-up = by-phase give-up x _ refl refl refl
+      by-phase (country n networks t room) (answered-goes x (factsIn (x .phase)) (Selection.countryReply (eqb n 1) (networksIn networks)) t (configOf t) .only-phase) refl refl
+  steps (address list) = by-phase (address list) (addressed-goes x (factsIn (x .phase)) (addressesIn list) .only-phase) refl refl
+  steps begin = by-phase begin refl refl refl
+  steps init = by-phase init refl refl refl
+  steps (eap packet) = by-phase (eap packet) (packet-phase packet (readPacket packet)) refl refl
+  steps (reply parameters nas room) = by-phase (reply parameters nas room) (replied-goes x parameters nas (owed (turnIn (x .phase))) .only-phase) refl refl
+  steps (final good) = by-phase (final good) (finished-phase _) refl refl
+  steps (error number) = by-phase (error number) refl refl refl
+  steps (congestion authenticated timer) = record {
+    time = refl;
+    holds = ap (λ (hs : List Hold). x .holds ++ hs) (timer-hold (x .time) timer (chosen (x .phase)));
+    children = refl;
+  }
+  steps give-up = by-phase give-up refl refl refl
   steps (child-made spi session) = record { time = refl; holds = sym (append-nil (x .holds)); children = refl }
   steps (child-deleted spi) = record { time = refl; holds = sym (append-nil (x .holds)); children = refl }
   steps ike-delete = record { time = refl; holds = sym (append-nil (x .holds)); children = refl }
 
+-- the line that the call finds has the call's time and the holds that haven't ended
+found-after : (e : Event) (time : ℕ) (x : Line) → After e time x (some (outcome e (current time x) .line))
+unfolding current
+found-after e time x =
+    let s = steps (current time x) e in
+    record { line = outcome e (current time x) .line; stands = refl; time = s .time; holds = s .holds; children = s .children }
+
 pub timed-after : (tenant line time : ℕ) (e : Event) (l : List ℕ) (x : Line) → Timed tenant line time e l x
     → After e time x (lineIn (run (timed tenant line time e) l .table) tenant line)
-unfolding current
-timed-after tenant line time e l x t =
-    let s = steps (current time x) e in
-    record {
-      line = outcome e (current time x) .line;
-      stands = timed-run tenant line time e l x t .1;
-      time = s .time;
-      holds = s .holds;
-      children = s .children;
-    }
+timed-after tenant line time e l x t = subst (After e time x) (sym (timed-run tenant line time e l x t .1)) (found-after e time x)
