@@ -18,6 +18,8 @@ use Rattle.eap.specs.Packet.{readPacket}
 use Rattle.eap.specs.declared.Packet.{Packet}
 use Rattle.eap.specs.declared.Packet.the-variants.{Start, NasRequest, Success, NasResponse, Stop, Other}
 use Rattle.lists.specs.Lists.{addressesIn, networksIn}
+use Rattle.phase.specs.Stage.{isIn}
+use Rattle.phase.specs.Stage as Stage
 use Rattle.phase.specs.declared.Phase.{Phase}
 use Rattle.phase.specs.declared.Phase.the-variants.{Idle, Init, Auth, Eap, Sure, Live}
 use Rattle.phase.specs.declared.Turn.the-variants.{First, Owed}
@@ -34,7 +36,7 @@ use Rattle.rules.specs.Call.{Event, start, country, address, begin, init
 use Rattle.rules.specs.Claims.{Good, Timed, lineIn}
 use Rattle.rules.specs.Histories.{isOctets}
 use Rattle.rules.specs.Life.{becomes, congested, current, finished, goes, inPhase, keeps, onward, outcome, packetTaken, withChildren}
-use Rattle.rules.specs.Phases.{factsIn, isIn, lastReply, owed, turnIn, word}
+use Rattle.rules.specs.Phases.{factsIn, lastReply, owed, turnIn}
 use Rattle.rules.specs.Refusals.{isDue, isNumber, refusalsOf}
 use Rattle.rules.specs.Run.{Result, fresh, run, step, stepOf, timedStep, viewOf}
 use Rattle.rules.proofs.Accepted.{line-range, ready, timed-pair}
@@ -54,7 +56,7 @@ data Leads (e : Event) (p : Phase) : Phase → Type 0 where
 
 module _ (x : Line) where
   packet-leads : (packet : List ℕ) (q : Packet) → readPacket packet ≡ q → Leads (eap packet) (x .phase) (packetTaken x packet q .line .phase)
-  unfolding packetTaken keeps goes inPhase isIn word text same
+  unfolding packetTaken keeps goes inPhase isIn
   packet-leads packet (Start i) r = early (onward-early (λ a. Eap a (First i)) (λ a. record { not-sure = refl; not-live = refl }) (chosen (x .phase)))
   packet-leads packet (NasRequest i at n) r = early (onward-early (λ a. Eap a (Owed i)) (λ a. record { not-sure = refl; not-live = refl }) (chosen (x .phase)))
   packet-leads packet (Success i) r = succeeds packet i refl r
@@ -69,7 +71,7 @@ module _ (x : Line) where
 
   -- one clause for each row of the table
   leads : (e : Event) → Leads e (x .phase) (outcome e x .line .phase)
-  unfolding outcome keeps goes inPhase becomes congested withChildren isIn word text same
+  unfolding outcome keeps goes inPhase becomes congested withChildren isIn
   leads (start g t room) = early (started-goes x (factsOf g) t (configOf t) .early)
   leads (country n networks t room) = early (answered-goes x (factsIn (x .phase)) (Selection.countryReply (eqb n 1) (networksIn networks)) t (configOf t) .early)
   leads (address list) = early (addressed-goes x (factsIn (x .phase)) (addressesIn list) .early)
@@ -86,13 +88,13 @@ module _ (x : Line) where
   leads ike-delete = early idle-early
 
 -- a sure line isn't live, and a live one isn't sure
-sure-apart : (o : Option Address) → isIn "live" (onward Sure o) ≡ false
-unfolding onward isIn word text same
+sure-apart : (o : Option Address) → isIn Stage.live (onward Sure o) ≡ false
+unfolding onward isIn
 sure-apart none = refl
 sure-apart (some a) = refl
 
-live-apart : (o : Option Address) → isIn "sure" (onward Live o) ≡ false
-unfolding onward isIn word text same
+live-apart : (o : Option Address) → isIn Stage.sure (onward Live o) ≡ false
+unfolding onward isIn
 live-apart none = refl
 live-apart (some a) = refl
 
@@ -106,7 +108,7 @@ module _ (tenant line time : ℕ) (e : Event) (out : Bool) (x : Line) (free : re
   abbrev c : Call
   c = timed tenant line time e
 
-  sure-before : e ≡ final 1 → isIn "sure" (x .phase) ≡ true
+  sure-before : e ≡ final 1 → isIn Stage.sure (x .phase) ≡ true
   unfolding refusalsOf current
   sure-before q = allowed-by _ _ [] (subst (λ (d : Event). refusal (refusalsOf d out (current time x)) ≡ 0) q free)
 
@@ -116,13 +118,13 @@ module _ (tenant line time : ℕ) (e : Event) (out : Bool) (x : Line) (free : re
       let due : isDue (readPacket packet) (x .phase) ≡ true = allowed-then _ _ _ [] (subst (λ (d : Event). refusal (refusalsOf d out (current time x)) ≡ 0) q free) in
       is-number i (lastReply (turnIn (x .phase))) (subst (λ (p : Packet). isDue p (x .phase) ≡ true) r due)
 
-  live-by : {p : Phase} → Leads e (x .phase) p → isIn "live" p ≡ true → LiveBy c tenant line (some x)
+  live-by : {p : Phase} → Leads e (x .phase) p → isIn Stage.live p ≡ true → LiveBy c tenant line (some x)
   live-by stays h = was-live x h
   live-by (early f) h = absurd (false≢true (sym (f .not-live) ∙ h))
   live-by (succeeds packet i q r) h = absurd (false≢true (sym (sure-apart (chosen (x .phase))) ∙ h))
   live-by (finishes q) h = auth-good x time (ap (timed tenant line time) q) (sure-before q)
 
-  sure-by : {p : Phase} → Leads e (x .phase) p → isIn "sure" p ≡ true → SureBy c tenant line (some x)
+  sure-by : {p : Phase} → Leads e (x .phase) p → isIn Stage.sure p ≡ true → SureBy c tenant line (some x)
   sure-by stays h = was-sure x h
   sure-by (early f) h = absurd (false≢true (sym (f .not-sure) ∙ h))
   sure-by (succeeds packet i q r) h = success x time i packet (ap (timed tenant line time) q) r (reply-before packet i q r)
@@ -225,14 +227,14 @@ module _ (c : Call) (l : List ℕ) (tenant line : ℕ) (y : Line) (octets : isOc
   abbrev came-by : Came c l tenant line y
   came-by = came l good tenant line small y c octets h
 
-  pub live-authenticated : isIn "live" (y .phase) ≡ true → LiveBy c tenant line (lineIn l tenant line)
+  pub live-authenticated : isIn Stage.live (y .phase) ≡ true → LiveBy c tenant line (lineIn l tenant line)
   unfolding current
   live-authenticated =
-      known l good tenant line small y (isIn "live") (λ d o. LiveBy d tenant line o) (idle-early .not-live) (λ d x. was-live x)
+      known l good tenant line small y (isIn Stage.live) (λ d o. LiveBy d tenant line o) (idle-early .not-live) (λ d x. was-live x)
       (λ time e x free. live-by tenant line time e (ltb 4294967295 time) x free (leads (current time x) e)) c came-by
 
-  pub sure-succeeded : isIn "sure" (y .phase) ≡ true → SureBy c tenant line (lineIn l tenant line)
+  pub sure-succeeded : isIn Stage.sure (y .phase) ≡ true → SureBy c tenant line (lineIn l tenant line)
   unfolding current
   sure-succeeded =
-      known l good tenant line small y (isIn "sure") (λ d o. SureBy d tenant line o) (idle-early .not-sure) (λ d x. was-sure x)
+      known l good tenant line small y (isIn Stage.sure) (λ d o. SureBy d tenant line o) (idle-early .not-sure) (λ d x. was-sure x)
       (λ time e x free. sure-by tenant line time e (ltb 4294967295 time) x free (leads (current time x) e)) c came-by

@@ -12,6 +12,8 @@ use Rattle.gateway.specs.Gateway.{choose}
 use Rattle.gateway.specs.declared.Found.{Found}
 use Rattle.gateway.specs.declared.Found.the-variants as Found
 use Rattle.network.specs.declared.Plmn.{Plmn}
+use Rattle.phase.specs.Stage.{isIn}
+use Rattle.phase.specs.Stage as Stage
 use Rattle.phase.specs.declared.Phase.{Phase}
 use Rattle.phase.specs.declared.Phase.the-variants.{Idle, Eap}
 use Rattle.phase.specs.declared.Turn.the-variants.{Answered}
@@ -23,12 +25,11 @@ use Rattle.selection.specs.declared.Choice.{Choice}
 use Rattle.selection.specs.declared.Choice.the-variants as Choice
 use Rattle.text.specs.Text.{text}
 use Rattle.rules.specs.Life.{Outcome, addressAnswered, countryAnswered, decided, gatewayFound, goes, inPhase, nameAsked, onward, replied, started}
-use Rattle.rules.specs.Phases.{isIn, word}
 
 -- a phase that is neither sure nor live
 pub record Early (p : Phase) : Type 0 where
-  pub not-sure : isIn "sure" p ≡ false
-  pub not-live : isIn "live" p ≡ false
+  pub not-sure : isIn Stage.sure p ≡ false
+  pub not-live : isIn Stage.live p ≡ false
 
 -- an outcome in such a phase, with all else of the line as it was
 pub record Goes (x : Line) (o : Outcome) : Type 0 where
@@ -36,7 +37,7 @@ pub record Goes (x : Line) (o : Outcome) : Type 0 where
   pub early : Early (o .line .phase)
 
 pub idle-early : Early Idle
-unfolding isIn word text same
+unfolding isIn
 idle-early = record { not-sure = refl; not-live = refl }
 
 -- the chosen address goes on into an early phase
@@ -47,12 +48,12 @@ onward-early f h (some a) = h a
 
 module _ (x : Line) where
   found-goes : (f : Found) → Goes x (gatewayFound x f)
-  unfolding gatewayFound goes inPhase isIn word text same
+  unfolding gatewayFound goes inPhase isIn
   found-goes (Found.Chosen a k) = record { only-phase = refl; early = record { not-sure = refl; not-live = refl } }
   found-goes (Found.Nothing k) = record { only-phase = refl; early = idle-early }
 
   decided-goes : (f : Facts) (t : List ℕ) (c : Choice) → Goes x (decided x f t c)
-  unfolding decided goes nameAsked inPhase isIn word text same
+  unfolding decided goes nameAsked inPhase isIn
   decided-goes f t (Choice.Stop n) = record { only-phase = refl; early = idle-early }
   decided-goes f t (Choice.Country mcc) = record { only-phase = refl; early = record { not-sure = refl; not-live = refl } }
   decided-goes f t (Choice.Text at n) = record { only-phase = refl; early = record { not-sure = refl; not-live = refl } }
@@ -76,7 +77,7 @@ module _ (x : Line) where
   addressed-goes (some f) list = found-goes (choose (f .version) (heldAddresses (x .holds)) list)
 
   pub replied-goes : (parameters nas : List ℕ) (o : Option ℕ) → Goes x (replied x parameters nas o)
-  unfolding replied goes inPhase isIn word text same
+  unfolding replied goes inPhase isIn
   replied-goes parameters nas none = record { only-phase = refl; early = idle-early }
   replied-goes parameters nas (some i) = record {
     only-phase = refl;

@@ -146,7 +146,7 @@ module _ (out : Bool) (x : Line) where
     keeps-final : (good : ℕ) → refusal (refusalsOf (final good) out x) ≡ 0 → Valid (outcome (final good) x .line)
     unfolding refusalsOf outcome
     keeps-final good e =
-        finished-valid (calm-word (x .phase) "sure" refl (allowed-by _ _ [] e)) _
+        finished-valid (calm-in (x .phase) Stage.sure refl (allowed-by _ _ [] e)) _
 
     keeps-error : (number : ℕ) → refusal (refusalsOf (error number) out x) ≡ 0 → Valid (outcome (error number) x .line)
     unfolding refusalsOf outcome goes

@@ -80,7 +80,7 @@ module _ (tenant line : ℕ) (l : List ℕ) (good : Good l) (e : numberGiven (cl
   closes : number c l ≡ 0
   closes = sym (given-is c l) ∙ e
 
-  pub closed-zero : slot (run c l .table) (recordOf l (pairOf tenant line)) ≡ zeros 243
+  pub closed-zero : slot (run c l .table) (recordOf l (pairOf tenant line)) ≡ zeros recordLength
   unfolding stepOf step applied slotOctets isOctets lentOctets allOf
   closed-zero =
       let p = pairOf tenant line in

@@ -15,12 +15,12 @@ use Rattle.octets.proofs.Refusals.{refusal-step}
 use Rattle.octets.proofs.Search.{and-left, and-right, or-left, or-other, or-right}
 use Rattle.children.specs.Children.{hasSpi, isSpi, sameSpi, spisDiffer}
 use Rattle.children.specs.declared.Child.{Child}
+use Rattle.phase.specs.Stage.{isIn}
+use Rattle.phase.specs.Stage as Stage
 use Rattle.record.specs.Line.{Line}
-use Rattle.record.specs.Sound.{isLive}
 use Rattle.rules.specs.Call.{child-made, child-deleted, timed, pairOf}
 use Rattle.rules.specs.Claims.{Good, Timed, lineIn}
 use Rattle.rules.specs.Life.{becomes, current, isOther, outcome, withChildren}
-use Rattle.rules.specs.Phases.{isIn}
 use Rattle.rules.specs.Refusals.{badChild, refusalsOf, unless}
 use Rattle.rules.specs.Run.{run}
 use Rattle.rules.proofs.Accepted.{found-storable, found-sound}

@@ -13,6 +13,8 @@ use Rattle.children.specs.declared.Child.{Child}
 use Rattle.eap.specs.Packet.{readPacket}
 use Rattle.eap.specs.declared.Packet.the-variants.{Success}
 use Rattle.holds.specs.Holds.{endsAfter}
+use Rattle.phase.specs.Stage.{isIn}
+use Rattle.phase.specs.Stage as Stage
 use Rattle.phase.specs.declared.Phase.{Phase}
 use Rattle.record.specs.Line.{Line}
 use Rattle.record.specs.Sound.{chosen}
@@ -20,7 +22,7 @@ use Rattle.table.specs.Table.{recordOf}
 use Rattle.timer.specs.Timer.{unitSeconds}
 use Rattle.rules.specs.Call.{Event, start, country, address, begin, init, eap, reply, final, error, congestion, give-up, child-made, child-deleted, ike-delete, Call, opening, closing, listing, timed, pairOf}
 use Rattle.rules.specs.Life.{isOther}
-use Rattle.rules.specs.Phases.{isIn, lastReply, turnIn}
+use Rattle.rules.specs.Phases.{lastReply, turnIn}
 
 -- opening takes a free record, closing and events change that of their pair, a listing none
 unfoldable pub ownRecord : Call → List ℕ → Option ℕ
@@ -31,14 +33,14 @@ ownRecord (timed tenant line time e) l = some (recordOf l (pairOf tenant line))
 
 -- why a line is sure after a call, by what the pair had before: it was, or the call is an EAP Success on it with the identifier of the last reply
 pub data SureBy (c : Call) (tenant line : ℕ) : Option Line → Type 0 where
-  was-sure : (x : Line) → isIn "sure" (x .phase) ≡ true → SureBy c tenant line (some x)
+  was-sure : (x : Line) → isIn Stage.sure (x .phase) ≡ true → SureBy c tenant line (some x)
   success : (x : Line) (time identifier : ℕ) (packet : List ℕ) → c ≡ timed tenant line time (eap packet) → readPacket packet ≡ Success identifier
       → lastReply (turnIn (x .phase)) ≡ some identifier → SureBy c tenant line (some x)
 
 -- why a line is live after a call: it was, or the call is the final answer on it with AUTH good, and it was sure
 pub data LiveBy (c : Call) (tenant line : ℕ) : Option Line → Type 0 where
-  was-live : (x : Line) → isIn "live" (x .phase) ≡ true → LiveBy c tenant line (some x)
-  auth-good : (x : Line) (time : ℕ) → c ≡ timed tenant line time (final 1) → isIn "sure" (x .phase) ≡ true → LiveBy c tenant line (some x)
+  was-live : (x : Line) → isIn Stage.live (x .phase) ≡ true → LiveBy c tenant line (some x)
+  auth-good : (x : Line) (time : ℕ) → c ≡ timed tenant line time (final 1) → isIn Stage.sure (x .phase) ≡ true → LiveBy c tenant line (some x)
 
 -- hold by timer of the chosen address: without end at unit 7, else none at count 0, else until time plus count times unit
 unfoldable pub congestionHold : ℕ → ℕ → Option Address → List Hold

@@ -23,7 +23,7 @@ use Rattle.response.specs.Laws as Response
 use Rattle.selection.specs.Selection as Selection
 use Rattle.selection.specs.Stops.{Ends, Exactly, addresses, countryReached, startReached}
 use Rattle.table.specs.Slots.{isOpen, lineAt, slotsOf}
-use Rattle.table.specs.Table.{isTable, recordOf, slot}
+use Rattle.table.specs.Table.{isTable, recordOf, slot, tableLength}
 use Rattle.rules.specs.After.{After, LiveBy, SureBy, ownRecord}
 use Rattle.rules.specs.Answer.{Answer, eventRoom}
 use Rattle.rules.specs.Call.{StartNumbers, Event, start, country, address, child-made, child-deleted, Call, opening, closing, listing, timed, factsOf, pairOf}
@@ -110,7 +110,7 @@ pub record Claims : Type 0 where
       → Timed tenant line time (address list) l x → factsIn (x .phase) ≡ some f
       → Exactly (Ends s (f .version) (heldAddresses (current time x .holds)) (addresses (addressesIn list))) (stopSaid (run (timed tenant line time (address list)) l .answer))
   -- children stand only on a live line
-  pub tunnels-live : (tenant line : ℕ) (l : List ℕ) (x : Line) → Good l → lineIn l tenant line ≡ some x → isIn "live" (x .phase) ≡ false → x .children ≡ []
+  pub tunnels-live : (tenant line : ℕ) (l : List ℕ) (x : Line) → Good l → lineIn l tenant line ≡ some x → isIn Stage.live (x .phase) ≡ false → x .children ≡ []
   -- an accepted child made adds that one at the end of a live line and changes nothing else of the line as the call finds it
   pub tunnels-made : (tenant line time spi session : ℕ) (l : List ℕ) (x : Line) → Timed tenant line time (child-made spi session) l x
       → (isIn Stage.live (x .phase) ≡ true)
@@ -122,9 +122,9 @@ pub record Claims : Type 0 where
       × (suc (length (only (isOther spi) (x .children))) ≡ length (x .children))
   -- whatever the call, a line is live only if it was or is now authenticated, and sure only if it was or EAP now succeeded
   pub live-authenticated : (c : Call) (l : List ℕ) (tenant line : ℕ) (y : Line) → isOctets c ≡ true → Good l → line ≤ 3
-      → lineIn (run c l .table) tenant line ≡ some y → isIn "live" (y .phase) ≡ true → LiveBy c tenant line (lineIn l tenant line)
+      → lineIn (run c l .table) tenant line ≡ some y → isIn Stage.live (y .phase) ≡ true → LiveBy c tenant line (lineIn l tenant line)
   pub sure-succeeded : (c : Call) (l : List ℕ) (tenant line : ℕ) (y : Line) → isOctets c ≡ true → Good l → line ≤ 3
-      → lineIn (run c l .table) tenant line ≡ some y → isIn "sure" (y .phase) ≡ true → SureBy c tenant line (lineIn l tenant line)
+      → lineIn (run c l .table) tenant line ≡ some y → isIn Stage.sure (y .phase) ≡ true → SureBy c tenant line (lineIn l tenant line)
   -- an accepted timed call stores its time and drops the ended holds; only congestion adds a hold, only a child made adds a child
   pub timed-after : (tenant line time : ℕ) (e : Event) (l : List ℕ) (x : Line) → Timed tenant line time e l x
       → After e time x (lineIn (run (timed tenant line time e) l .table) tenant line)
@@ -137,7 +137,7 @@ pub record Claims : Type 0 where
   pub eap-round : Response.Laws
   -- after an accepted close the pair's record is zeros
   pub closed-zero : (tenant line : ℕ) (l : List ℕ) → Good l → numberGiven (closing tenant line) l ≡ 0
-      → slot (run (closing tenant line) l .table) (recordOf l (pairOf tenant line)) ≡ zeros 243
+      → slot (run (closing tenant line) l .table) (recordOf l (pairOf tenant line)) ≡ zeros recordLength
   -- a line just opened is idle with no child, no hold and time 0, whatever the table was
   pub taken-over-clean : (tenant line : ℕ) (l : List ℕ) → Good l → numberGiven (opening tenant line) l ≡ 0
       → lineIn (run (opening tenant line) l .table) tenant line ≡ some fresh
