@@ -1,23 +1,23 @@
 -- What the tests of fields come to.
-use Prim.Native.Nat.{ℕ, suc, _≤_, _<_}
-use mathlib.Core.Bool.{Bool, true, false, _||_, false≢true}
+use Prim.Native.Nat.{ℕ, _≤_, _<_}
+use mathlib.Core.Bool.{Bool, true, false, _||_}
 use mathlib.Core.List.{List}
 use mathlib.Core.Option.{Option, none, some}
 use mathlib.Core.Path.{_≡_, refl, sym, ap, ap₂, _∙_, subst}
 use native.Mathlib.Omega.{arith}
 use lib.Dec.{leb, ltb, eqb}
 use lib.ListN.{length}
-use borrow.Author.Tests.{le-leb, lt-leb, leb-true, leb-false, eq-eqb, ne-eqb, lt-ltb, ltb-true, ltb-false}
+use borrow.Author.Tests.{le-leb, lt-leb, leb-true, leb-false, eq-eqb, ne-eqb, ltb-true, ltb-false}
 use Rattle.octets.specs.Part.{part, same}
-use Rattle.octets.specs.Search.{least, allOf}
+use Rattle.octets.specs.Search.{allOf}
 use Rattle.octets.proofs.Fields.{part-whole}
 use Rattle.octets.proofs.Parts.{same-equal, equal-same}
-use Rattle.octets.proofs.Search.{and-false, least-first}
-use Rattle.text.specs.Text.{readDigits, numberRead, digitText, decimal, decimalWidth, shortEnough}
+use Rattle.octets.proofs.Search.{and-false}
+use Rattle.text.specs.Text.{readDigits, numberRead, digitText, decimal, decimalWidth}
 use Rattle.text.specs.declared.Reading.{Reading}
 use Rattle.text.specs.declared.Reading.the-variants.{Number, NotDigits}
-use Rattle.text.proofs.Texts.{write-text, length-digitText}
-use Rattle.entry.specs.Field.{plmnFrom, plmnOf, maxPriority, plain, priorityOf, maxNameLength, isName, isNameCharacter}
+use Rattle.text.proofs.Texts.{write-text, length-digitText, width-below}
+use Rattle.entry.specs.Field.{plmnFrom, plmnOf, plain, priorityOf, isName, isNameCharacter}
 
 -- what a reading of a whole field says of it
 module _ (b : ℕ) (l : List ℕ) (r : Reading) (read : numberRead r ≡ readDigits b (part l 0 (length l))) where
@@ -100,22 +100,13 @@ pub priority-none : (l : List ℕ) → readDigits 10 l ≡ none → none ≡ pri
 unfolding priorityOf plain
 priority-none l e = rw e
 
--- a number up to the greatest priority has at most three digits
-width-small : (x : ℕ) → x ≤ maxPriority → decimalWidth x ≤ 3
-unfolding decimalWidth shortEnough
-width-small x h = go (ltb 2 (least 19 (shortEnough x))) refl
-  where
-    go : (t : Bool) → ltb 2 (least 19 (shortEnough x)) ≡ t → suc (least 19 (shortEnough x)) ≤ 3
-    go true e = absurd (false≢true (sym (least-first 19 (shortEnough x) 2 (ltb-true 2 (least 19 (shortEnough x)) e)) ∙ lt-ltb x 1000 (omega arith)))
-    go false e = omega (arith, ltb-false 2 (least 19 (shortEnough x)) e)
-
 -- more than three characters are no priority
 pub priority-long : (l : List ℕ) → 3 < length l → none ≡ priorityOf l
 priority-long l h = go (readDigits 10 l) refl
   where
-    sized : (x : ℕ) → readDigits 10 l ≡ some x → (t : Bool) → leb x maxPriority ≡ t → none ≡ priorityOf l
-    sized x e true f = priority-misspelt l x e (λ q. let w = width-small x (leb-true x maxPriority f) in omega arith)
-    sized x e false f = priority-high l x e (leb-false x maxPriority f)
+    sized : (x : ℕ) → readDigits 10 l ≡ some x → (t : Bool) → leb x 255 ≡ t → none ≡ priorityOf l
+    sized x e true f = priority-misspelt l x e (λ q. let small = leb-true x 255 f in let w = width-below x 2 (omega arith) in omega arith)
+    sized x e false f = priority-high l x e (leb-false x 255 f)
 
     go : (o : Option ℕ) → readDigits 10 l ≡ o → none ≡ priorityOf l
     go none e = priority-none l e

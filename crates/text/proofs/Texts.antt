@@ -13,10 +13,10 @@ use lib.Seq.{drop-cons}
 use borrow.Author.Tests.{ltb-true, ltb-false, lt-ltb, le-ltb, lt-leb, eqb-true}
 use Rattle.octets.specs.Digits.{digits, number, numberFrom}
 use Rattle.octets.specs.Laws.{below}
-use Rattle.octets.specs.Search.{all, allOf}
-use Rattle.text.specs.Text.{character, digit, isDigit, digitText, readDigits}
+use Rattle.octets.specs.Search.{all, allOf, least}
+use Rattle.text.specs.Text.{character, digit, isDigit, digitText, readDigits, decimal, decimalWidth, shortEnough}
 use Rattle.octets.proofs.Digits.{length-digits, number-digits, digits-number, base-positive}
-use Rattle.octets.proofs.Search.{all-each, and-left, and-right, and-true, and-false}
+use Rattle.octets.proofs.Search.{all-each, and-left, and-right, and-true, and-false, least-first}
 
 -- a digit's character stands for it
 readsBack : ℕ → Bool
@@ -112,6 +112,19 @@ write-text b x l h e =
 pub length-digitText : (b n x : ℕ) → length (digitText b n x) ≡ n
 unfolding digitText
 length-digitText b n x = length-map (digits b n x) character ∙ length-digits b n x
+
+-- a number below 10 ^ suc k has at most suc k decimal digits
+pub width-below : (x k : ℕ) → x < 10 ^ suc k → decimalWidth x ≤ suc k
+unfolding decimalWidth shortEnough
+width-below x k h = go (ltb k (least 19 (shortEnough x))) refl
+  where
+    go : (t : Bool) → ltb k (least 19 (shortEnough x)) ≡ t → suc (least 19 (shortEnough x)) ≤ suc k
+    go true e = absurd (false≢true (sym (least-first 19 (shortEnough x) k (ltb-true k (least 19 (shortEnough x)) e)) ∙ lt-ltb x (10 ^ suc k) h))
+    go false e = omega (arith, ltb-false k (least 19 (shortEnough x)) e)
+
+pub decimal-below : (x k : ℕ) → x < 10 ^ suc k → length (decimal x) ≤ suc k
+unfolding decimal
+decimal-below x k h = rw (length-digitText 10 (decimalWidth x) x) (width-below x k h)
 
 -- what a text says in base b, where the characters before it said x
 abbrev pub readFrom : ℕ → ℕ → List ℕ → Option ℕ
