@@ -83,7 +83,7 @@ module _ (tenant line : ℕ) (pair-is : isNoPair tenant line ≡ false) where
   own-is ss b = getD-row (ownLine tenant ss) none 0 4 line (omega (arith, line-range)) ∙ ap (ownLine tenant ss) (zero-add line)
 
 -- the line of an open pair of a sound table is sound and fits its octets
-module _ (l : List ℕ) (good : Good l) (pair : ℕ) (low : 1 ≤ pair) (x : Line) (e : lineAt pair (slotsOf l) ≡ some x) where
+module _ (l : List ℕ) (sound : isTable l ≡ true) (pair : ℕ) (low : 1 ≤ pair) (x : Line) (e : lineAt pair (slotsOf l) ≡ some x) where
   pub is-found : recordOf l pair < 32
   unfolding isSome
   is-found = ltb-true (recordOf l pair) 32 (sym (open-found l pair) ∙ open-line pair low (slotsOf l) ∙ ap isSome e)
@@ -98,7 +98,7 @@ module _ (l : List ℕ) (good : Good l) (pair : ℕ) (low : 1 ≤ pair) (x : Lin
   -- its record is a sound one
   used-record : isRecord s ≡ true
   unfolding slotAt
-  used-record = go (same s (zeros recordLength)) refl (table-kept l (good .sound) (recordOf l pair) is-found)
+  used-record = go (same s (zeros 243)) refl (table-kept l sound (recordOf l pair) is-found)
     where
       go : (b : Bool) → same s (zeros recordLength) ≡ b → b || isRecord s ≡ true → isRecord s ≡ true
       go true q k =
@@ -111,12 +111,12 @@ module _ (l : List ℕ) (good : Good l) (pair : ℕ) (low : 1 ≤ pair) (x : Lin
   unfolding isRecord
   found-sound = ap lineSound (sym is-line) ∙ and-right (leb 1 (field s 0 1) && leb (field s 0 1) 64 && lineWritten s) (lineSound (lineFrom s)) used-record
 
-  pub found-storable : lineStorable x ≡ true
+  pub found-storable : allOf (below 256) l ≡ true → lineStorable x ≡ true
   unfolding slot
-  found-storable =
-      let size : length l ≡ tableLength = table-length l (good .sound) in
+  found-storable octets =
+      let size : length l ≡ 7776 = table-length l sound in
       ap lineStorable (sym is-line)
-      ∙ RoundTrip.storable s (allOf-part (below 256) l (recordLength * recordOf l pair) recordLength (good .octets)) (length-part l (recordLength * recordOf l pair) recordLength (omega (arith, is-found))) used-record
+      ∙ RoundTrip.storable s (allOf-part (below 256) l (243 * recordOf l pair) 243 octets) (length-part l (243 * recordOf l pair) 243 (omega (arith, is-found))) used-record
 
 -- where no number is given, none of the first conditions holds
 module _ (n m k : ℕ) (a b c : Bool) (rs : List Refusal) (e : refusal ((suc n when a) ∷ (suc m when b) ∷ (suc k when c) ∷ rs) ≡ 0) where
@@ -161,14 +161,15 @@ module _ (l : List ℕ) (good : Good l) (tenant line : ℕ) where
       (ltb-true (recordOf l p) 32 (sym (open-found l p) ∙ opened), refl, refl)
 
 -- where a timed call is accepted, none of its event's conditions holds
-pub event-number : (tenant line time : ℕ) (e : Event) (w : View) (x : Line) → refusal (timedStep tenant line time e w (some x) .refusals) ≡ 0
-    → refusal (refusalsOf e (ltb 4294967295 time) (current time x)) ≡ 0
-unfolding timedStep lineOr
-event-number tenant line time e w x q =
+pub event-number : (tenant line time : ℕ) (e : Event) (w : View) (found : Option Line) → refusal (timedStep tenant line time e w found .refusals) ≡ 0
+    → refusal (refusalsOf e (ltb 4294967295 time) (current time (lineOr found))) ≡ 0
+unfolding timedStep
+event-number tenant line time e w found q =
+    let x = lineOr found in
     let event = refusalsOf e (ltb 4294967295 time) (current time x) in
     let late = (7 when ltb time (x .time)) ∷ event in
     refusal-step 6 (ltb time (x .time)) event
-    (refusal-step 4 (not (isSome (some x))) late (rest-fails 0 1 2 (not (w .sound)) (isNoPair tenant line) (isShort e) ((5 when not (isSome (some x))) ∷ late) q) .1) .1
+    (refusal-step 4 (not (isSome found)) late (rest-fails 0 1 2 (not (w .sound)) (isNoPair tenant line) (isShort e) ((5 when not (isSome found)) ∷ late) q) .1) .1
 
 module _ (l : List ℕ) (good : Good l) (tenant line time : ℕ) (e : Event) (octets : allOf (below 256) (eventOctets e) ≡ true) where
   timed-ready : (found : Option Line) → (isNoPair tenant line ≡ false → lineAt (pairOf tenant line) (slotsOf l) ≡ found)
@@ -186,9 +187,9 @@ module _ (l : List ℕ) (good : Good l) (tenant line time : ℕ) (e : Event) (oc
       let pair-is : isNoPair tenant line ≡ false = second-fails 0 1 2 (not (w .sound)) (isNoPair tenant line) (isShort e) ((5 when not (isSome (some x))) ∷ late) q in
       let low = pair-low tenant line pair-is in
       let kept =
-      keeps-line e time x octets (found-sound l good p low x (at-pair pair-is)) (found-storable l good p low x (at-pair pair-is)) (event-number tenant line time e w x q) in
+      keeps-line e time x octets (found-sound l (good .sound) p low x (at-pair pair-is)) (found-storable l (good .sound) p low x (at-pair pair-is) (good .octets)) (event-number tenant line time e w (some x) q) in
       let own : eqb p 0 || eqb p p ≡ true = or-true (eqb p 0) (eqb p p) (eq-eqb p p refl) in
-      (is-found l good p low x (at-pair pair-is), used-fits tenant line pair-is (outcome e (current time x) .line) (kept .0) (kept .1), ap (λ (b : Bool). b || not (isOpen p (slotsOf l))) own)
+      (is-found l (good .sound) p low x (at-pair pair-is), used-fits tenant line pair-is (outcome e (current time x) .line) (kept .0) (kept .1), ap (λ (b : Bool). b || not (isOpen p (slotsOf l))) own)
 
 pub ready : (c : Call) (l : List ℕ) → isOctets c ≡ true → Good l → refusal (stepOf c l .refusals) ≡ 0 → Ready l (stepOf c l .act)
 unfolding stepOf tenantOf step isOctets lentOctets
@@ -199,9 +200,15 @@ ready (timed tenant line time event) l octets good e =
     timed-ready l good tenant line time event octets (getD (viewOf (isTable l) tenant (slotsOf l) .lines) line none)
     (λ pair-is. sym (own-is tenant line pair-is (slotsOf l) (isTable l))) e
 
--- an accepted timed call has a pair
-pub timed-pair : (tenant line time : ℕ) (e : Event) (w : View) (found : Option Line) → refusal (timedStep tenant line time e w found .refusals) ≡ 0 → isNoPair tenant line ≡ false
-unfolding timedStep
-timed-pair tenant line time e w found q =
-    second-fails 0 1 2 (not (w .sound)) (isNoPair tenant line) (isShort e)
-    ((5 when not (isSome found)) ∷ (7 when ltb time (lineOr found .time)) ∷ refusalsOf e (ltb 4294967295 time) (current time (lineOr found))) q
+-- an accepted timed call has a pair, and an answer buffer that is long enough
+module _ (tenant line time : ℕ) (e : Event) (w : View) (found : Option Line) (q : refusal (timedStep tenant line time e w found .refusals) ≡ 0) where
+  abbrev others : List Refusal
+  others = (5 when not (isSome found)) ∷ (7 when ltb time (lineOr found .time)) ∷ refusalsOf e (ltb 4294967295 time) (current time (lineOr found))
+
+  pub timed-pair : isNoPair tenant line ≡ false
+  unfolding timedStep
+  timed-pair = second-fails 0 1 2 (not (w .sound)) (isNoPair tenant line) (isShort e) others q
+
+  pub timed-room : isShort e ≡ false
+  unfolding timedStep
+  timed-room = third-fails 0 1 2 (not (w .sound)) (isNoPair tenant line) (isShort e) others q

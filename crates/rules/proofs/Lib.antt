@@ -7,13 +7,16 @@ pub mod Children
 pub mod Current
 pub mod Eap
 pub mod Ends
-pub mod Goes
+pub mod Histories
 pub mod Isolation
 pub mod Keeps
+pub mod Listings
 pub mod Moves
 pub mod Nodes
+pub mod Numbers
 pub mod Phases
 pub mod Refused
+pub mod Rooms
 pub mod Runs
 pub mod Selecting
 pub mod Timed

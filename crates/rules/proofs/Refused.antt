@@ -9,14 +9,13 @@ use lib.Dec.{ltb}
 use lib.ListN.{getD}
 use Rattle.octets.specs.Part.{zeros}
 use Rattle.octets.specs.Refusal.{Refusal, _when_, refusal, Rising, Applies}
-use Rattle.octets.specs.Search.{allOf}
 use Rattle.octets.proofs.Refusals as Refusals
 use Rattle.record.specs.Line.{Line}
 use Rattle.table.specs.Slots.{slotsOf}
 use Rattle.table.specs.Table.{isTable}
 use Rattle.rules.specs.Answer.{refused}
 use Rattle.rules.specs.Call.{Event, start, country, address, begin, init, eap, reply, final, error, congestion, give-up, child-made, child-deleted, ike-delete, Call, opening, closing, listing, timed, tenantOf}
-use Rattle.rules.specs.Claims.{Left, numberGiven, roomOf}
+use Rattle.rules.specs.Claims.{Left, countOf, numberGiven, roomOf}
 use Rattle.rules.specs.Life.{current}
 use Rattle.rules.specs.Refusals.{refusalsOf, unless}
 use Rattle.rules.specs.Run.{Step, View, answerOf, bare, lineOr, run, settled, step, stepOf, timedStep, viewOf}
@@ -49,7 +48,7 @@ given-is c l = settled-number (refusal (stepOf c l .refusals)) c (stepOf c l) l 
 -- what a refused call answers
 module _ (n : ℕ) (l : List ℕ) where
   refused-left : (c : Call) → Left c l (record { answer = refused n c; table = l })
-  unfolding refused roomOf allOf zeros
+  unfolding refused roomOf countOf zeros
   refused-left (opening tenant line) = record { table = refl; numbers = refl; part = refl; buffer = refl }
   refused-left (closing tenant line) = record { table = refl; numbers = refl; part = refl; buffer = refl }
   refused-left (listing tenant room) = record { table = refl; numbers = refl; part = refl; buffer = refl }

@@ -61,7 +61,8 @@ module _ (tenant line time : ℕ) (e : Event) (l : List ℕ) (x : Line) (t : Tim
 
   -- none of the event's conditions holds
   pub no-ground : refusal (refusalsOf e (ltb 4294967295 time) (current time x)) ≡ 0
-  no-ground = event-number tenant line time e v x (ap (λ (s : Step). refusal (s .refusals)) (sym line-step) ∙ no-number)
+  unfolding lineOr
+  no-ground = event-number tenant line time e v (some x) (ap (λ (s : Step). refusal (s .refusals)) (sym line-step) ∙ no-number)
 
   answer-is : run c l .answer ≡ answerOf e o
   unfolding timedStep lineOr

@@ -36,7 +36,7 @@ line-valid : (tenant line : ℕ) (l : List ℕ) (x : Line) → Good l → lineIn
 unfolding lineIn pairOf
 line-valid tenant line l x good e =
     let p = pairOf tenant line in
-    valid-of x (found-sound l good p (omega arith) x e) (found-storable l good p (omega arith) x e)
+    valid-of x (found-sound l (good .sound) p (omega arith) x e) (found-storable l (good .sound) p (omega arith) x e (good .octets))
 
 pub tunnels-live : (tenant line : ℕ) (l : List ℕ) (x : Line) → Good l → lineIn l tenant line ≡ some x → isIn Stage.live (x .phase) ≡ false → x .children ≡ []
 tunnels-live tenant line l x good e h =

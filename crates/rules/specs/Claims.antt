@@ -23,16 +23,22 @@ use Rattle.response.specs.Laws as Response
 use Rattle.selection.specs.Selection as Selection
 use Rattle.selection.specs.Stops.{Ends, Exactly, addresses, countryReached, startReached}
 use Rattle.table.specs.Slots.{isOpen, lineAt, slotsOf}
-use Rattle.table.specs.Table.{isTable, recordOf, slot, tableLength}
-use Rattle.rules.specs.After.{After, LiveBy, SureBy, ownRecord}
-use Rattle.rules.specs.Answer.{Answer, eventRoom}
-use Rattle.rules.specs.Call.{StartNumbers, Event, start, country, address, child-made, child-deleted, Call, opening, closing, listing, timed, factsOf, pairOf}
-use Rattle.rules.specs.Histories.{answersTo, isOctets, remaining}
+use Rattle.table.specs.Table.{isTable, recordOf, slot}
+use Rattle.rules.specs.Answer.{Answer, eventRoom, numbersOf}
+use Rattle.rules.specs.Call.{StartNumbers, Event, start, country, address, begin, init, eap, reply, final, error, congestion, give-up, child-made, child-deleted, ike-delete, Call, opening, closing, listing, timed, factsOf, pairOf}
+use Rattle.rules.specs.Computed.{got, said}
+use Rattle.rules.specs.FormExamples as FormExamples
+use Rattle.rules.specs.Histories.{answersTo, isOctets, remaining, tableAfter}
+use Rattle.rules.specs.HoldExamples as HoldExamples
 use Rattle.rules.specs.Life.{current, isOther, outcome, withChildren}
+use Rattle.rules.specs.LifeExamples as LifeExamples
 use Rattle.rules.specs.Listing.{listFrom}
-use Rattle.rules.specs.Phases.{factsIn}
+use Rattle.rules.specs.PhaseExamples as PhaseExamples
+use Rattle.rules.specs.Phases.{factsIn, isIn}
+use Rattle.rules.specs.RefusalExamples as RefusalExamples
 use Rattle.rules.specs.Run.{Result, answerOf, fresh, ownLine, run, stepOf}
 use Rattle.rules.specs.OnSlots.{runOn}
+use Rattle.rules.specs.SelectionExamples as SelectionExamples
 use Rattle.rules.specs.Starred as Starred
 
 -- the number that a call gives
@@ -58,10 +64,17 @@ roomOf (closing tenant line) = 0
 roomOf (listing tenant room) = room
 roomOf (timed tenant line time e) = eventRoom e
 
+-- how many numbers the answer of a call has: twelve, none for open and close
+unfoldable pub countOf : Call → ℕ
+countOf (opening tenant line) = 0
+countOf (closing tenant line) = 0
+countOf (listing tenant room) = 12
+countOf (timed tenant line time e) = 12
+
 -- what a refused call leaves
 pub record Left (c : Call) (l : List ℕ) (r : Result) : Type 0 where
   pub table : r .table ≡ l
-  pub numbers : allOf (eqb 0) (r .answer .numbers) ≡ true
+  pub numbers : r .answer .numbers ≡ zeros (countOf c)
   pub part : r .answer .part ≡ []
   pub buffer : r .answer .buffer ≡ zeros (roomOf c)
 
@@ -145,6 +158,26 @@ pub record Claims : Type 0 where
   pub taken-over-listed : (tenant line room : ℕ) (l : List ℕ) → Good l → numberGiven (opening tenant line) l ≡ 0 → 1024 ≤ room
       → run (listing tenant room) (run (opening tenant line) l .table) .answer .buffer
       ≡ padded room (listFrom 0 (set (row (ownLine tenant (slotsOf l)) 0 4) line (some fresh)))
+  -- the answer to every call has its count of numbers, and its buffer has the length that was lent, so that what is written fits it
+  pub answer-count : (c : Call) (l : List ℕ) → length (run c l .answer .numbers) ≡ countOf c
+  pub answer-room : (c : Call) (l : List ℕ) → length (run c l .answer .buffer) ≡ roomOf c
+  -- every history leaves a sound table, from the empty one and from any sound one
+  pub history-sound : (h : List Call) → allOf isOctets h ≡ true → Good (tableAfter h (zeros 7776))
+  pub history-sound-from : (h : List Call) (l : List ℕ) → allOf isOctets h ≡ true → Good l → Good (tableAfter h l)
+  -- 'Life of a line' and 'Listing of one tenant': the histories, the numbers of each action, every event in every phase
+  pub lives : map got LifeExamples.lives ≡ map said LifeExamples.lives
+  pub actions : map numbersOf LifeExamples.actions ≡ LifeExamples.actionNumbers
+  pub phases : map PhaseExamples.phaseFound PhaseExamples.phases ≡ map PhaseExamples.phaseSaid PhaseExamples.phases
+  -- 'Choosing a gateway'
+  pub selections : map got SelectionExamples.selections ≡ map said SelectionExamples.selections
+  -- 'Refusal numbers': the lowest that applies, and the ranges for 8
+  pub lowest : map got RefusalExamples.lowest ≡ map said RefusalExamples.lowest
+  pub ranges : map got RefusalExamples.ranges ≡ map said RefusalExamples.ranges
+  -- well-formed and ill-formed texts and packets, and children
+  pub forms : map got FormExamples.forms ≡ map said FormExamples.forms
+  -- holds, and those that histories leave
+  pub holdings : map got HoldExamples.holdings ≡ map said HoldExamples.holdings
+  pub kept : map HoldExamples.keptFound HoldExamples.kept ≡ map HoldExamples.keptSaid HoldExamples.kept
   -- if the same calls remain after striking out the other tenants' calls that are neither open nor close, a tenant gets the same answers
   pub isolation : (a : ℕ) (g h : List Call) → allOf isOctets g ≡ true → allOf isOctets h ≡ true → remaining a g ≡ remaining a h
       → answersTo a g (zeros tableLength) ≡ answersTo a h (zeros tableLength)

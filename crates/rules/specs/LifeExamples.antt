@@ -1,4 +1,5 @@
 -- Histories of 'Life of a line' and 'Listing of one tenant', each under the sentence that it shows.
+use Prim.Native.Nat.{ℕ}
 use Prim.Native.String.{String}
 use mathlib.Core.List.{List, [], _∷_, _++_, map}
 use mathlib.Core.Path.{_≡_, refl}
@@ -122,11 +123,17 @@ pub lives-computed : map got lives ≡ map said lives
 unfolding lives got said
 lives-computed = refl
 
--- the twelve numbers of each action, in the order of the numbers that name actions
-pub numbers-computed : map numbersOf
-    (nothing ∷ stopped 4 2 ∷ ask-country 52 ∷ ask-text 22 13 ∷ ask-built 43 ∷ chose (V4 5) 2 ∷ chose (V6 8 9) 1 ∷ send-init ∷ send-auth-request
-    ∷ ask-nas ∷ hand-up 16 3 ∷ send-response 19 ∷ send-auth ∷ live ∷ released 1 ∷ error-up 1 24 ∷ listed 42 ∷ [])
-    ≡ twelve 0 0 0 0 0 0 0 0 0 0 0 0
+-- every action, in the order of the numbers that name actions
+unfoldable pub actions : List Action
+actions =
+    nothing ∷ stopped 4 2 ∷ ask-country 52 ∷ ask-text 22 13 ∷ ask-built 43 ∷ chose (V4 5) 2 ∷ chose (V6 8 9) 1 ∷ send-init ∷ send-auth-request
+    ∷ ask-nas ∷ hand-up 16 3 ∷ send-response 19 ∷ send-auth ∷ live ∷ released 1 ∷ error-up 1 24 ∷ listed 42 ∷ []
+
+-- the twelve numbers of each
+unfoldable pub actionNumbers : List (List ℕ)
+unfolding twelve
+actionNumbers =
+    twelve 0 0 0 0 0 0 0 0 0 0 0 0
     ∷ twelve 1 4 2 0 0 0 0 0 0 0 0 0
     ∷ twelve 2 0 0 2 0 52 0 0 0 0 0 52
     ∷ twelve 3 0 0 1 22 13 0 0 0 0 0 0
@@ -144,5 +151,7 @@ pub numbers-computed : map numbersOf
     ∷ twelve 13 0 0 0 0 0 0 0 0 1 24 0
     ∷ twelve 0 0 0 0 0 0 0 0 0 0 0 42
     ∷ []
-unfolding numbersOf twelve high low versionOf
-numbers-computed = refl
+
+pub actions-computed : map numbersOf actions ≡ actionNumbers
+unfolding actions actionNumbers numbersOf twelve high low versionOf
+actions-computed = refl

@@ -1,11 +1,18 @@
 -- `rules::claims` meets its contract: each claim is proved below proofs/.
 use Rattle.response.proofs.Round.{write-read, read-write}
 use Rattle.response.proofs.Writing.{accepted, response-fits}
+use Rattle.rules.specs.FormExamples.{forms-computed}
+use Rattle.rules.specs.HoldExamples.{holds-computed, kept-computed}
+use Rattle.rules.specs.LifeExamples.{actions-computed, lives-computed}
+use Rattle.rules.specs.PhaseExamples.{phases-computed}
+use Rattle.rules.specs.RefusalExamples.{lowest-computed, ranges-computed}
+use Rattle.rules.specs.SelectionExamples.{selections-computed}
 use Rattle.rules.specs.Starred.{computed}
-use Rattle.rules.proofs.After.{timed-after}
-use Rattle.rules.proofs.Authenticated.{live-authenticated, sure-succeeded}
+use Rattle.rules.proofs.Histories.{history-sound, history-sound-from}
 use Rattle.rules.proofs.Isolation.{empty-good, isolation, isolation-from}
+use Rattle.rules.proofs.Numbers.{answer-count}
 use Rattle.rules.proofs.Refused.{refusal-leaves, refusal-lowest, refusal-none, refusal-range}
+use Rattle.rules.proofs.Rooms.{answer-room}
 use Rattle.rules.proofs.Runs.{closed-zero, run-slots, run-sound, taken-over-clean, taken-over-listed}
 use Rattle.rules.proofs.Timed.{stops-address, stops-country, stops-start, timed-run}
 use Rattle.rules.proofs.Tunnels.{tunnels-deleted, tunnels-live, tunnels-made}
@@ -43,6 +50,19 @@ returns c = record {
   closed-zero = closed-zero;
   taken-over-clean = taken-over-clean;
   taken-over-listed = taken-over-listed;
+  answer-count = answer-count;
+  answer-room = answer-room;
+  history-sound = history-sound;
+  history-sound-from = history-sound-from;
+  lives = lives-computed;
+  actions = actions-computed;
+  phases = phases-computed;
+  selections = selections-computed;
+  lowest = lowest-computed;
+  ranges = ranges-computed;
+  forms = forms-computed;
+  holdings = holds-computed;
+  kept = kept-computed;
   isolation = isolation;
   isolation-from = isolation-from;
   starred = computed;

@@ -1,0 +1,117 @@
+-- How long a listing is: a line of a sound table has at most 50 octets and each of its at most 8 children at most 20.
+use Prim.Native.Nat.{ℕ, suc, _+_, _*_, _≤_, _<_}
+use mathlib.Core.Bool.{Bool, true, _&&_}
+use mathlib.Core.List.{List, [], _∷_}
+use mathlib.Core.Option.{Option, none, some}
+use mathlib.Core.Path.{_≡_, refl}
+use native.Mathlib.Omega.{arith}
+use lib.Dec.{leb}
+use lib.ListN.{length, length-append}
+use borrow.Author.Tests.{leb-true}
+use Rattle.octets.specs.Row.{joined, row}
+use Rattle.octets.specs.Search.{allOf}
+use Rattle.octets.proofs.Rows.{length-row, row-passes}
+use Rattle.octets.proofs.Search.{and-left, and-right}
+use Rattle.address.specs.declared.Address.{Address}
+use Rattle.address.specs.declared.Address.the-variants.{V4, V6}
+use Rattle.children.specs.Children.{childFits}
+use Rattle.children.specs.declared.Child.{Child}
+use Rattle.phase.specs.declared.Phase.{Phase}
+use Rattle.phase.specs.declared.Phase.the-variants.{Idle, Country, Name, Chosen, Init, Auth, Eap, Sure, Live}
+use Rattle.record.specs.Line.{Line}
+use Rattle.record.specs.Sound.{childrenSound, chosen, inRange, lineSound}
+use Rattle.table.specs.Slots.{lineAt, slotsOf}
+use Rattle.table.specs.Table.{isTable}
+use Rattle.text.specs.Text.{text}
+use Rattle.text.proofs.Texts.{decimal-below, length-digitText}
+use Rattle.rules.specs.Call.{pairOf}
+use Rattle.rules.specs.Listing.{addressText, childText, lineText, listFrom, newline, tab}
+use Rattle.rules.specs.Phases.{word}
+use Rattle.rules.specs.Run.{ownLine}
+use Rattle.rules.proofs.Accepted.{found-sound}
+
+word-short : (p : Phase) → length (text (word p)) ≤ 7
+unfolding word text
+word-short Idle = omega arith
+word-short (Country f) = omega arith
+word-short (Name f) = omega arith
+word-short (Chosen a) = omega arith
+word-short (Init a) = omega arith
+word-short (Auth a) = omega arith
+word-short (Eap a t) = omega arith
+word-short (Sure a) = omega arith
+word-short (Live a) = omega arith
+
+-- an address text has at most 32 octets
+address-short : (o : Option Address) → length (addressText o) ≤ 32
+unfolding addressText text
+address-short none = omega arith
+address-short (some (V4 x)) = simp length-digitText (omega arith)
+address-short (some (V6 h l)) = simp (length-append, length-digitText) (omega arith)
+
+-- elements of at most w octets each, one after another
+joined-short : {A : Type 0} (g : A → List ℕ) (p : A → Bool) (w : ℕ) → ((x : A) → p x ≡ true → length (g x) ≤ w)
+    → (l : List A) → allOf p l ≡ true → length (joined g l) ≤ w * length l
+unfolding joined allOf
+joined-short g p w short [] e = omega arith
+joined-short g p w short (x ∷ l) e =
+    let here = short x (and-left (p x) (allOf p l) e) in
+    let rest = joined-short g p w short l (and-right (p x) (allOf p l) e) in
+    simp length-append (omega arith)
+
+-- the texts of a line with a number of one digit
+module _ (n : ℕ) (small : n < 10) where
+  child-short : (c : Child) → childFits c ≡ true → length (childText n c) ≤ 20
+  unfolding childText text tab newline childFits
+  child-short c fits =
+      let session = leb-true (c .session) 15 (and-right (leb 256 (c .spi) && leb 1 (c .session)) (leb (c .session) 15) fits) in
+      let number = decimal-below n 0 small in
+      let digits = decimal-below (c .session) 1 (omega arith) in
+      simp (length-append, length-digitText) (omega arith)
+
+  line-short : (x : Line) → lineSound x ≡ true → length (lineText n x) ≤ 210
+  unfolding lineText text tab newline lineSound inRange childrenSound
+  line-short x sound =
+      let fit : allOf childFits (x .children) ≡ true = search (and-left, and-right) in
+      let few : leb (length (x .children)) 8 ≡ true = search (and-left, and-right) in
+      let most = leb-true (length (x .children)) 8 few in
+      let number = decimal-below n 0 small in
+      let count = decimal-below (length (x .children)) 0 (omega arith) in
+      let phase = word-short (x .phase) in
+      let address = address-short (chosen (x .phase)) in
+      let children = joined-short (childText n) childFits 20 child-short (x .children) fit in
+      simp length-append (omega arith)
+
+-- there is no line, or it is a sound one
+soundIf : Option Line → Bool
+soundIf none = true
+soundIf (some x) = lineSound x
+
+-- the lines from a number on, as long as each number has one digit
+lines-short : (n : ℕ) (xs : List (Option Line)) → n + length xs ≤ 10 → allOf soundIf xs ≡ true → length (listFrom n xs) ≤ 210 * length xs
+unfolding listFrom allOf soundIf
+lines-short n [] h e = omega arith
+lines-short n (none ∷ xs) h e =
+    let rest = lines-short (suc n) xs (omega arith) e in
+    omega arith
+lines-short n (some x ∷ xs) h e =
+    let here = line-short n (omega arith) x (and-left (lineSound x) (allOf soundIf xs) e) in
+    let rest = lines-short (suc n) xs (omega arith) (and-right (lineSound x) (allOf soundIf xs) e) in
+    simp length-append (omega arith)
+
+-- the listing of a tenant of a sound table
+module _ (l : List ℕ) (sound : isTable l ≡ true) (tenant : ℕ) where
+  own-sound : (i : ℕ) → soundIf (ownLine tenant (slotsOf l) i) ≡ true
+  unfolding soundIf ownLine pairOf
+  own-sound i = go (lineAt (pairOf tenant i) (slotsOf l)) refl
+    where
+      go : (o : Option Line) → lineAt (pairOf tenant i) (slotsOf l) ≡ o → soundIf o ≡ true
+      go none e = refl
+      go (some x) e = found-sound l sound (pairOf tenant i) (omega arith) x e
+
+  pub listing-short : length (listFrom 0 (row (ownLine tenant (slotsOf l)) 0 4)) ≤ 840
+  listing-short =
+      let lines = row (ownLine tenant (slotsOf l)) 0 4 in
+      let four = length-row (ownLine tenant (slotsOf l)) 0 4 in
+      let short = lines-short 0 lines (omega arith) (row-passes (ownLine tenant (slotsOf l)) soundIf 0 4 (λ i h. own-sound i)) in
+      omega arith
