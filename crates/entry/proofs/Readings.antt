@@ -17,7 +17,7 @@ use Rattle.text.specs.Text.{readDigits, numberRead, digitText, decimal, decimal
 use Rattle.text.specs.declared.Reading.{Reading}
 use Rattle.text.specs.declared.Reading.the-variants.{Number, NotDigits}
 use Rattle.text.proofs.Texts.{write-text, length-digitText, width-below}
-use Rattle.entry.specs.Field.{plmnFrom, plmnOf, plain, priorityOf, isName, isNameCharacter}
+use Rattle.entry.specs.Field.{plmnFrom, plmnOf, plain, priorityOf, isName, isNameCharacter, maxPriority, maxNameLength}
 
 -- what a reading of a whole field says of it
 module _ (b : ℕ) (l : List ℕ) (r : Reading) (read : numberRead r ≡ readDigits b (part l 0 (length l))) where

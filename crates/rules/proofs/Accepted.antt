@@ -98,7 +98,7 @@ module _ (l : List ℕ) (sound : isTable l ≡ true) (pair : ℕ) (low : 1 ≤ p
   -- its record is a sound one
   used-record : isRecord s ≡ true
   unfolding slotAt
-  used-record = go (same s (zeros 243)) refl (table-kept l sound (recordOf l pair) is-found)
+  used-record = go (same s (zeros recordLength)) refl (table-kept l sound (recordOf l pair) is-found)
     where
       go : (b : Bool) → same s (zeros recordLength) ≡ b → b || isRecord s ≡ true → isRecord s ≡ true
       go true q k =
@@ -114,9 +114,9 @@ module _ (l : List ℕ) (sound : isTable l ≡ true) (pair : ℕ) (low : 1 ≤ p
   pub found-storable : allOf (below 256) l ≡ true → lineStorable x ≡ true
   unfolding slot
   found-storable octets =
-      let size : length l ≡ 7776 = table-length l sound in
+      let size : length l ≡ tableLength = table-length l sound in
       ap lineStorable (sym is-line)
-      ∙ RoundTrip.storable s (allOf-part (below 256) l (243 * recordOf l pair) 243 octets) (length-part l (243 * recordOf l pair) 243 (omega (arith, is-found))) used-record
+      ∙ RoundTrip.storable s (allOf-part (below 256) l (recordLength * recordOf l pair) recordLength octets) (length-part l (recordLength * recordOf l pair) recordLength (omega (arith, is-found))) used-record
 
 -- where no number is given, none of the first conditions holds
 module _ (n m k : ℕ) (a b c : Bool) (rs : List Refusal) (e : refusal ((suc n when a) ∷ (suc m when b) ∷ (suc k when c) ∷ rs) ≡ 0) where

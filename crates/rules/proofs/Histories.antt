@@ -6,6 +6,7 @@ use mathlib.Core.Path.{_≡_}
 use Rattle.octets.specs.Part.{zeros}
 use Rattle.octets.specs.Search.{allOf}
 use Rattle.octets.proofs.Search.{and-left, and-right}
+use Rattle.table.specs.Table.{tableLength}
 use Rattle.rules.specs.Call.{Call}
 use Rattle.rules.specs.Claims.{Good}
 use Rattle.rules.specs.Histories.{isOctets, tableAfter}
@@ -19,5 +20,5 @@ history-sound-from [] l octets good = good
 history-sound-from (c ∷ h) l octets good =
     history-sound-from h (run c l .table) (and-right (isOctets c) (allOf isOctets h) octets) (run-sound c l (and-left (isOctets c) (allOf isOctets h) octets) good)
 
-pub history-sound : (h : List Call) → allOf isOctets h ≡ true → Good (tableAfter h (zeros 7776))
-history-sound h octets = history-sound-from h (zeros 7776) octets empty-good
+pub history-sound : (h : List Call) → allOf isOctets h ≡ true → Good (tableAfter h (zeros tableLength))
+history-sound h octets = history-sound-from h (zeros tableLength) octets empty-good

@@ -16,8 +16,8 @@ use Rattle.address.specs.declared.Address.{Address}
 use Rattle.address.specs.declared.Address.the-variants.{V4, V6}
 use Rattle.children.specs.Children.{childFits}
 use Rattle.children.specs.declared.Child.{Child}
-use Rattle.phase.specs.declared.Phase.{Phase}
-use Rattle.phase.specs.declared.Phase.the-variants.{Idle, Country, Name, Chosen, Init, Auth, Eap, Sure, Live}
+use Rattle.phase.specs.Stage.{Stage, stageOf}
+use Rattle.phase.specs.Stage as Stage
 use Rattle.record.specs.Line.{Line}
 use Rattle.record.specs.Sound.{childrenSound, chosen, inRange, lineSound}
 use Rattle.table.specs.Slots.{lineAt, slotsOf}
@@ -25,22 +25,21 @@ use Rattle.table.specs.Table.{isTable}
 use Rattle.text.specs.Text.{text}
 use Rattle.text.proofs.Texts.{decimal-below, length-digitText}
 use Rattle.rules.specs.Call.{pairOf}
-use Rattle.rules.specs.Listing.{addressText, childText, lineText, listFrom, newline, tab}
-use Rattle.rules.specs.Phases.{word}
+use Rattle.rules.specs.Listing.{addressText, childText, lineText, listFrom, newline, tab, word}
 use Rattle.rules.specs.Run.{ownLine}
 use Rattle.rules.proofs.Accepted.{found-sound}
 
-word-short : (p : Phase) → length (text (word p)) ≤ 7
+word-short : (s : Stage) → length (text (word s)) ≤ 7
 unfolding word text
-word-short Idle = omega arith
-word-short (Country f) = omega arith
-word-short (Name f) = omega arith
-word-short (Chosen a) = omega arith
-word-short (Init a) = omega arith
-word-short (Auth a) = omega arith
-word-short (Eap a t) = omega arith
-word-short (Sure a) = omega arith
-word-short (Live a) = omega arith
+word-short Stage.idle = omega arith
+word-short Stage.country = omega arith
+word-short Stage.name = omega arith
+word-short Stage.chosen = omega arith
+word-short Stage.init = omega arith
+word-short Stage.auth = omega arith
+word-short Stage.eap = omega arith
+word-short Stage.sure = omega arith
+word-short Stage.live = omega arith
 
 -- an address text has at most 32 octets
 address-short : (o : Option Address) → length (addressText o) ≤ 32
@@ -77,7 +76,7 @@ module _ (n : ℕ) (small : n < 10) where
       let most = leb-true (length (x .children)) 8 few in
       let number = decimal-below n 0 small in
       let count = decimal-below (length (x .children)) 0 (omega arith) in
-      let phase = word-short (x .phase) in
+      let phase = word-short (stageOf (x .phase)) in
       let address = address-short (chosen (x .phase)) in
       let children = joined-short (childText n) childFits 20 child-short (x .children) fit in
       simp length-append (omega arith)

@@ -23,9 +23,10 @@ use Rattle.response.specs.Laws as Response
 use Rattle.selection.specs.Selection as Selection
 use Rattle.selection.specs.Stops.{Ends, Exactly, addresses, countryReached, startReached}
 use Rattle.table.specs.Slots.{isOpen, lineAt, slotsOf}
-use Rattle.table.specs.Table.{isTable, recordOf, slot}
+use Rattle.table.specs.Table.{isTable, recordOf, slot, tableLength}
+use Rattle.rules.specs.After.{After, LiveBy, SureBy, ownRecord}
 use Rattle.rules.specs.Answer.{Answer, eventRoom, numbersOf}
-use Rattle.rules.specs.Call.{StartNumbers, Event, start, country, address, begin, init, eap, reply, final, error, congestion, give-up, child-made, child-deleted, ike-delete, Call, opening, closing, listing, timed, factsOf, pairOf}
+use Rattle.rules.specs.Call.{StartNumbers, Event, start, country, address, child-made, child-deleted, Call, opening, closing, listing, timed, factsOf, pairOf}
 use Rattle.rules.specs.Computed.{got, said}
 use Rattle.rules.specs.FormExamples as FormExamples
 use Rattle.rules.specs.Histories.{answersTo, isOctets, remaining, tableAfter}
@@ -34,7 +35,7 @@ use Rattle.rules.specs.Life.{current, isOther, outcome, withChildren}
 use Rattle.rules.specs.LifeExamples as LifeExamples
 use Rattle.rules.specs.Listing.{listFrom}
 use Rattle.rules.specs.PhaseExamples as PhaseExamples
-use Rattle.rules.specs.Phases.{factsIn, isIn}
+use Rattle.rules.specs.Phases.{factsIn}
 use Rattle.rules.specs.RefusalExamples as RefusalExamples
 use Rattle.rules.specs.Run.{Result, answerOf, fresh, ownLine, run, stepOf}
 use Rattle.rules.specs.OnSlots.{runOn}
@@ -162,7 +163,7 @@ pub record Claims : Type 0 where
   pub answer-count : (c : Call) (l : List ℕ) → length (run c l .answer .numbers) ≡ countOf c
   pub answer-room : (c : Call) (l : List ℕ) → length (run c l .answer .buffer) ≡ roomOf c
   -- every history leaves a sound table, from the empty one and from any sound one
-  pub history-sound : (h : List Call) → allOf isOctets h ≡ true → Good (tableAfter h (zeros 7776))
+  pub history-sound : (h : List Call) → allOf isOctets h ≡ true → Good (tableAfter h (zeros tableLength))
   pub history-sound-from : (h : List Call) (l : List ℕ) → allOf isOctets h ≡ true → Good l → Good (tableAfter h l)
   -- 'Life of a line' and 'Listing of one tenant': the histories, the numbers of each action, every event in every phase
   pub lives : map got LifeExamples.lives ≡ map said LifeExamples.lives

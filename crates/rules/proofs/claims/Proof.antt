@@ -8,6 +8,8 @@ use Rattle.rules.specs.PhaseExamples.{phases-computed}
 use Rattle.rules.specs.RefusalExamples.{lowest-computed, ranges-computed}
 use Rattle.rules.specs.SelectionExamples.{selections-computed}
 use Rattle.rules.specs.Starred.{computed}
+use Rattle.rules.proofs.After.{timed-after}
+use Rattle.rules.proofs.Authenticated.{live-authenticated, sure-succeeded}
 use Rattle.rules.proofs.Histories.{history-sound, history-sound-from}
 use Rattle.rules.proofs.Isolation.{empty-good, isolation, isolation-from}
 use Rattle.rules.proofs.Numbers.{answer-count}
