@@ -65,7 +65,11 @@ inPhase x p = record { time = x .time; phase = p; holds = x .holds; children = x
 unfoldable pub goes : Line → Phase → Action → Outcome
 goes x p action = record { line = inPhase x p; action = action; part = []; written = [] }
 
--- the chosen address goes on into another phase
+-- stands where a refusal comes first, so that no accepted call gets there
+abbrev pub unreached : Line → Outcome
+unreached x = goes x Idle nothing
+
+-- the chosen address goes on into another phase; a phase without one is refused by 10
 unfoldable pub onward : (Address → Phase) → Option Address → Phase
 onward f none = Idle
 onward f (some a) = f a
@@ -94,22 +98,23 @@ decided x f text (Choice.Network p) =
     nameAsked x (Name f) (ask-built (length (built c))) text c
 decided x f text (Choice.Address a) = gatewayFound x (choose (f .version) (heldAddresses (x .holds)) (a ∷ []))
 
--- start, and the country answer with the place facts of the line, by the lent text
+-- start, by the lent text; one that isn't well formed is refused by 9
 unfoldable pub started : Line → Facts → List ℕ → Option Settings → Outcome
-started x f text none = goes x Idle nothing
+started x f text none = unreached x
 started x f text (some s) = decided x f text (Selection.start s f)
 
+-- the country answer, with the place facts of the line and the lent text; a phase without facts is refused by 10, an ill-formed text by 9
 unfoldable pub countryAnswered : Line → Option Facts → Option (List Plmn) → List ℕ → Option Settings → Outcome
-countryAnswered x none ps text s = goes x Idle nothing
-countryAnswered x (some f) ps text none = goes x Idle nothing
+countryAnswered x none ps text s = unreached x
+countryAnswered x (some f) ps text none = unreached x
 countryAnswered x (some f) ps text (some s) = decided x f text (Selection.country s f ps)
 
--- the address answer, for the local IP version of the line's place facts
+-- the address answer, for the local IP version of the line's place facts; a phase without them is refused by 10
 unfoldable pub addressAnswered : Line → Option Facts → List Address → Outcome
-addressAnswered x none list = goes x Idle nothing
+addressAnswered x none list = unreached x
 addressAnswered x (some f) list = gatewayFound x (choose (f .version) (heldAddresses (x .holds)) list)
 
--- EAP Start: identifier owed, ask for NAS; EAP NAS: identifier owed, hand NAS up; EAP Success: send AUTH
+-- EAP Start: identifier owed, ask for NAS; EAP NAS: identifier owed, hand NAS up; EAP Success: send AUTH; every other packet is refused by 9
 unfoldable pub packetTaken : Line → List ℕ → Packet → Outcome
 packetTaken x packet (Start i) = keeps x (λ a. Eap a (First i)) ask-nas
 packetTaken x packet (NasRequest i at n) = record {
@@ -119,13 +124,13 @@ packetTaken x packet (NasRequest i at n) = record {
   written = [];
 }
 packetTaken x packet (Success i) = keeps x Sure send-auth
-packetTaken x packet (NasResponse i p m at n) = goes x Idle nothing
-packetTaken x packet (Stop i) = goes x Idle nothing
-packetTaken x packet Other = goes x Idle nothing
+packetTaken x packet (NasResponse i p m at n) = unreached x
+packetTaken x packet (Stop i) = unreached x
+packetTaken x packet Other = unreached x
 
--- reply: none owed, a response with the identifier that was
+-- reply: none owed, a response with the identifier that was; where none is owed, the reply is refused by 10
 unfoldable pub replied : Line → List ℕ → List ℕ → Option ℕ → Outcome
-replied x parameters nas none = goes x Idle nothing
+replied x parameters nas none = unreached x
 replied x parameters nas (some i) =
     let r = response i parameters nas in
     record {
@@ -150,6 +155,7 @@ timerHold time Timer.None a = []
 timerHold time (Timer.Seconds n) a = record { address = a; end = At (time + n) } ∷ []
 timerHold time Timer.Deactivated a = record { address = a; end = Never } ∷ []
 
+-- the same of the chosen address; a phase without one is refused by 10
 unfoldable pub chosenHold : ℕ → Timer → Option Address → List Hold
 chosenHold time t none = []
 chosenHold time t (some a) = timerHold time t a
