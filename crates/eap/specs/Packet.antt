@@ -1,11 +1,11 @@
 -- EAP-5G packets, read field by field in the order of RFC 3748 and TS 24.502 clause 9.3.2.
 use Prim.Native.Nat.{ℕ, _+_}
 use mathlib.Core.Bool.{Bool, cond, _&&_}
-use mathlib.Core.List.{List, []}
+use mathlib.Core.List.{List, [], _∷_}
 use lib.Dec.{leb, eqb}
 use lib.ListN.{length}
 use Rattle.octets.specs.Digits.{field}
-use Rattle.octets.specs.Part.{part}
+use Rattle.octets.specs.Part.{padded, part, zeros}
 use Rattle.parameters.specs.Parameters.{mostParameters, wellFormed}
 use Rattle.eap.specs.declared.Packet.{Packet}
 use Rattle.eap.specs.declared.Packet.the-variants.{Start, NasRequest, Success, NasResponse, Stop, Other}
@@ -107,3 +107,12 @@ nasLength (Success i) = 0
 nasLength (NasResponse i p m at n) = n
 nasLength (Stop i) = 0
 nasLength Other = 0
+
+-- a packet in six numbers: 1 Start, 2 NAS, 3 Success, 4 Stop; its identifier; where AN-parameters and NAS start and how long they are; zeros for any other
+unfoldable pub packetNumbers : Packet → List ℕ
+packetNumbers (Start i) = padded 6 (1 ∷ i ∷ [])
+packetNumbers (NasRequest i at n) = 2 ∷ i ∷ 0 ∷ 0 ∷ at ∷ n ∷ []
+packetNumbers (Success i) = padded 6 (3 ∷ i ∷ [])
+packetNumbers (NasResponse i p m at n) = 2 ∷ i ∷ p ∷ m ∷ at ∷ n ∷ []
+packetNumbers (Stop i) = padded 6 (4 ∷ i ∷ [])
+packetNumbers Other = zeros 6

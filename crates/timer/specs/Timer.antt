@@ -1,7 +1,9 @@
 -- The timer octet: the top three bits give the unit, the low five the count.
 use Prim.Native.Nat.{ℕ, _*_, _/_, _%_}
 use mathlib.Core.Bool.{cond}
+use mathlib.Core.List.{List, [], _∷_}
 use lib.Dec.{eqb}
+use Rattle.octets.specs.Part.{padded}
 use Rattle.timer.specs.declared.Timer.{Timer}
 use Rattle.timer.specs.declared.Timer.the-variants.{None, Seconds, Deactivated}
 
@@ -22,3 +24,9 @@ timerOf octet =
     let unit = octet / 32 in
     let count = octet % 32 in
     cond (eqb unit 7) Deactivated (cond (eqb count 0) None (Seconds (count * unitSeconds unit)))
+
+-- a timer in six numbers: 0 none, 1 and its seconds, 2 deactivated
+unfoldable pub timerNumbers : Timer → List ℕ
+timerNumbers None = padded 6 (0 ∷ [])
+timerNumbers (Seconds n) = padded 6 (1 ∷ n ∷ [])
+timerNumbers Deactivated = padded 6 (2 ∷ [])
