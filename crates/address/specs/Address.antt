@@ -1,6 +1,6 @@
 -- Addresses of both IP versions, and when one is permitted (document 01, S5).
-use Prim.Native.Nat.{ℕ}
-use mathlib.Core.Bool.{Bool, false, not, _&&_}
+use Prim.Native.Nat.{ℕ, _+_, _*_, _/_, _%_, _^_}
+use mathlib.Core.Bool.{Bool, cond, not, _&&_, _||_}
 use mathlib.Core.List.{List, map}
 use lib.Dec.{eqb}
 use Rattle.octets.specs.Search.{anyOf}
@@ -8,17 +8,31 @@ use Rattle.address.specs.declared.Address.{Address}
 use Rattle.address.specs.declared.Address.the-variants.{V4, V6}
 use Rattle.address.specs.declared.Hold.{Hold}
 
+-- an IP version is 4 or 6
+unfoldable pub isVersion : ℕ → Bool
+isVersion v = eqb v 4 || eqb v 6
+
 -- the IP version of an address
 unfoldable pub versionOf : Address → ℕ
 versionOf (V4 x) = 4
 versionOf (V6 h l) = 6
 
--- the same N3IWF means the same address
+-- how many octets an address of a version has: 32 bits or 128
+unfoldable pub widthOf : ℕ → ℕ
+widthOf v = cond (eqb v 4) 4 16
+
+-- the number that an address is, which version 6 keeps as two halves of 64 bits
+unfoldable pub numberOf : Address → ℕ
+numberOf (V4 x) = x
+numberOf (V6 h l) = h * 2 ^ 64 + l
+
+-- the address of a version that is a number
+unfoldable pub addressOf : ℕ → ℕ → Address
+addressOf v x = cond (eqb v 4) (V4 x) (V6 (x / 2 ^ 64) (x % 2 ^ 64))
+
+-- the same N3IWF means the same address: its version and its number
 unfoldable pub sameAddress : Address → Address → Bool
-sameAddress (V4 x) (V4 y) = eqb x y
-sameAddress (V4 x) (V6 h l) = false
-sameAddress (V6 h l) (V4 x) = false
-sameAddress (V6 h l) (V6 i m) = eqb h i && eqb l m
+sameAddress a b = eqb (versionOf a) (versionOf b) && eqb (numberOf a) (numberOf b)
 
 -- an address stands in a list
 unfoldable pub stands : Address → List Address → Bool

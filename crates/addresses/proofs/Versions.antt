@@ -1,36 +1,50 @@
--- What the version at a place decides.
-use Prim.Native.Nat.{ℕ, _+_}
+-- What the version at a place decides, and what is written as halves.
+use Prim.Native.Nat.{ℕ, _+_, _*_, _^_, _≤_, _<_}
 use mathlib.Core.Bool.{true, false}
-use mathlib.Core.List.{List}
-use mathlib.Core.Path.{_≡_, sym, _∙_, subst}
+use mathlib.Core.List.{List, _++_, append-assoc, append-nil}
+use mathlib.Core.Path.{_≡_, refl, sym, ap, ap₂, _∙_, subst}
+use native.Mathlib.Omega.{arith}
+use lib.Arith.{digits-div, digits-mod}
 use lib.Dec.{eqb}
+use lib.ListN.{length}
 use borrow.Author.Tests.{eq-eqb, ne-eqb}
-use Rattle.octets.specs.Digits.{field}
-use Rattle.octets.specs.Part.{zerosAt}
+use Rattle.octets.specs.Digits.{be, field}
+use Rattle.octets.specs.Part.{part, same, zeros, zerosAt, Wrote}
+use Rattle.octets.proofs.Digits.{digits-halves}
+use Rattle.octets.proofs.Fields.{field-halves}
+use Rattle.address.specs.Address.{addressOf, isVersion, numberOf, versionOf, widthOf}
 use Rattle.address.specs.declared.Address.the-variants.{V4, V6}
-use Rattle.addresses.specs.Addresses.{addressFrom, isAddress, versionFrom}
+use Rattle.addresses.specs.Addresses.{addressFrom, addressOctets, isAddress, versionFrom}
 
 module _ (l : List ℕ) (at v : ℕ) (of : v ≡ versionFrom l at) where
   pub address-4 : v ≡ 4 → (x : ℕ) → x ≡ field l (at + 1) 4 → V4 x ≡ addressFrom l at
-  unfolding addressFrom
-  address-4 e x h = rw (eq-eqb (versionFrom l at) 4 (sym of ∙ e), h)
+  unfolding addressFrom addressOf widthOf
+  address-4 e x h = rw (sym of ∙ e, h)
 
-  pub address-6 : (v ≡ 4 → ⊥) → (x y : ℕ) → x ≡ field l (at + 1) 8 → y ≡ field l (at + 9) 8 → V6 x y ≡ addressFrom l at
-  unfolding addressFrom
-  address-6 h x y e f = rw (ne-eqb (versionFrom l at) 4 (subst (λ (k : ℕ). k ≡ 4 → ⊥) of h), e, f)
+  pub address-6 : (v ≡ 4 → ⊥) → at + 17 ≤ length l → (x y : ℕ) → x ≡ field l (at + 1) 8 → y ≡ field l (at + 9) 8 → y < 256 ^ 8 → V6 x y ≡ addressFrom l at
+  unfolding addressFrom addressOf widthOf
+  address-6 h fits x y e f small =
+      let place : at + 1 + 8 ≡ at + 9 = omega arith in
+      let whole : field l (at + 1) 16 ≡ x * 2 ^ 64 + y =
+      field-halves l (at + 1) 8 8 (omega arith) ∙ ap₂ (λ (i k : ℕ). i * 2 ^ 64 + field l k 8) (sym e) place ∙ ap (λ (j : ℕ). x * 2 ^ 64 + j) (sym f) in
+      rw (ne-eqb (versionFrom l at) 4 (subst (λ (k : ℕ). k ≡ 4 → ⊥) of h), whole) (sym (ap₂ V6 (digits-div x small) (digits-mod x small)))
 
   pub version-6 : v ≡ 6 → true ≡ isAddress l at
-  unfolding isAddress
-  version-6 e = rw (eq-eqb (versionFrom l at) 6 (sym of ∙ e))
+  unfolding isAddress isVersion widthOf zerosAt same part zeros
+  version-6 e = rw (sym of ∙ e)
 
   module _ (not-6 : v ≡ 6 → ⊥) where
-    other : eqb (versionFrom l at) 6 ≡ false
-    other = ne-eqb (versionFrom l at) 6 (subst (λ (k : ℕ). k ≡ 6 → ⊥) of not-6)
-
     pub no-version : (v ≡ 4 → ⊥) → false ≡ isAddress l at
-    unfolding isAddress
-    no-version h = rw (other, ne-eqb (versionFrom l at) 4 (subst (λ (k : ℕ). k ≡ 4 → ⊥) of h))
+    unfolding isAddress isVersion
+    no-version h = rw (ne-eqb (versionFrom l at) 4 (subst (λ (k : ℕ). k ≡ 4 → ⊥) of h), ne-eqb (versionFrom l at) 6 (subst (λ (k : ℕ). k ≡ 6 → ⊥) of not-6))
 
     pub version-4 : v ≡ 4 → zerosAt l (at + 5) 12 ≡ isAddress l at
-    unfolding isAddress
-    version-4 e = rw (other, eq-eqb (versionFrom l at) 4 (sym of ∙ e))
+    unfolding isAddress isVersion widthOf
+    version-4 e = rw (sym of ∙ e)
+
+-- two halves are written as the number that they are
+pub halves-wrote : {l m : List ℕ} {at : ℕ} (x y : ℕ) → y < 256 ^ 8 → Wrote l at (be 1 6 ++ be 8 x ++ be 8 y) m → Wrote l at (addressOctets (V6 x y)) m
+unfolding addressOctets versionOf numberOf widthOf be zeros
+halves-wrote {l} {m} {at} x y small w =
+    subst (λ (o : List ℕ). Wrote l at o m)
+    (append-assoc (be 1 6) (be 8 x) (be 8 y) ∙ ap (λ (o : List ℕ). be 1 6 ++ o) (sym (digits-halves 256 8 8 x y small)) ∙ sym (append-nil (be 1 6 ++ be 16 (x * 2 ^ 64 + y)))) w

@@ -1,16 +1,14 @@
--- An address in 17 octets: its version, 4 or 6, and 16 octets, of which version 4 has 4 and then zeros.
-use Prim.Native.Nat.{ℕ, _+_}
-use mathlib.Core.Bool.{Bool, cond, _&&_, _||_}
+-- An address in 17 octets: its version, its number in as many octets as the version has, and zeros up to 16 of them.
+use Prim.Native.Nat.{ℕ, _+_, _-_}
+use mathlib.Core.Bool.{Bool, _&&_}
 use mathlib.Core.List.{List, _++_}
-use lib.Dec.{eqb}
 use Rattle.octets.specs.Digits.{be, field}
 use Rattle.octets.specs.Part.{zeros, zerosAt}
+use Rattle.address.specs.Address.{addressOf, isVersion, numberOf, versionOf, widthOf}
 use Rattle.address.specs.declared.Address.{Address}
-use Rattle.address.specs.declared.Address.the-variants.{V4, V6}
 
 unfoldable pub addressOctets : Address → List ℕ
-addressOctets (V4 x) = be 1 4 ++ be 4 x ++ zeros 12
-addressOctets (V6 h l) = be 1 6 ++ be 8 h ++ be 8 l
+addressOctets a = let n = widthOf (versionOf a) in be 1 (versionOf a) ++ be n (numberOf a) ++ zeros (16 - n)
 
 -- the version at a place
 unfoldable pub versionFrom : List ℕ → ℕ → ℕ
@@ -18,8 +16,8 @@ versionFrom l at = field l at 1
 
 -- the address at a place
 unfoldable pub addressFrom : List ℕ → ℕ → Address
-addressFrom l at = cond (eqb (versionFrom l at) 4) (V4 (field l (at + 1) 4)) (V6 (field l (at + 1) 8) (field l (at + 9) 8))
+addressFrom l at = let v = versionFrom l at in addressOf v (field l (at + 1) (widthOf v))
 
--- an address stands at a place: a version that there is, and zeros behind version 4
+-- an address stands at a place: a version that there is, and zeros behind the number
 unfoldable pub isAddress : List ℕ → ℕ → Bool
-isAddress l at = eqb (versionFrom l at) 6 || eqb (versionFrom l at) 4 && zerosAt l (at + 5) 12
+isAddress l at = let v = versionFrom l at in isVersion v && zerosAt l (at + (1 + widthOf v)) (16 - widthOf v)

@@ -1,4 +1,4 @@
--- Writing and reading addresses undo each other; the function `laws` promises it.
+-- Writing and reading addresses undo each other, and an address is its version and its number; the function `laws` promises it.
 use Prim.Native.Nat.{ℕ, _+_, _^_, _≤_}
 use mathlib.Core.Bool.{Bool, true, _&&_}
 use mathlib.Core.List.{List}
@@ -8,14 +8,19 @@ use lib.ListN.{length}
 use Rattle.octets.specs.Laws.{below}
 use Rattle.octets.specs.Part.{part}
 use Rattle.octets.specs.Search.{allOf}
+use Rattle.address.specs.Address.{numberOf, sameAddress, versionOf, widthOf}
 use Rattle.address.specs.declared.Address.{Address}
 use Rattle.address.specs.declared.Address.the-variants.{V4, V6}
 use Rattle.addresses.specs.Addresses.{addressFrom, addressOctets, isAddress}
 
--- an address of 32 bits, or of two halves of 64
+-- version 6 is kept as halves of 64 bits
+unfoldable pub halved : Address → Bool
+halved (V4 x) = true
+halved (V6 h l) = ltb l (2 ^ 64)
+
+-- an address whose number fits its width
 unfoldable pub addressStorable : Address → Bool
-addressStorable (V4 x) = ltb x (2 ^ 32)
-addressStorable (V6 h l) = ltb h (2 ^ 64) && ltb l (2 ^ 64)
+addressStorable a = ltb (numberOf a) (256 ^ widthOf (versionOf a)) && halved a
 
 pub record Laws : Type 0 where
   -- an address has 17 octets
@@ -28,3 +33,6 @@ pub record Laws : Type 0 where
       → part l at 17 ≡ addressOctets (addressFrom l at)
   -- an address that is read from octets is in range
   pub storable : (l : List ℕ) (at : ℕ) → allOf (below 256) l ≡ true → at + 17 ≤ length l → addressStorable (addressFrom l at) ≡ true
+  -- addresses in range are the same exactly if they are equal
+  pub same-equal : (a b : Address) → addressStorable a ≡ true → addressStorable b ≡ true → sameAddress a b ≡ true → a ≡ b
+  pub equal-same : (a : Address) → sameAddress a a ≡ true

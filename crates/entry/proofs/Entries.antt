@@ -1,27 +1,32 @@
 -- What the tests of words, lengths and places come to.
-use Prim.Native.Nat.{ℕ, _+_, _-_, _≤_, zero-le}
+use Prim.Native.Nat.{ℕ, _+_, _*_, _-_, _^_, _≤_, zero-le}
 use mathlib.Core.Bool.{Bool, true, false}
 use mathlib.Core.List.{List, [], _∷_}
 use mathlib.Core.Option.{Option, none, some}
-use mathlib.Core.Path.{_≡_, refl, sym, ap, _∙_}
-use native.Mathlib.Nat.{sub-zero}
+use mathlib.Core.Path.{_≡_, refl, sym, ap, _∙_, ap₂}
+use native.Mathlib.Nat.{sub-zero, suc-ne-zero, zero-add}
 use native.Mathlib.Omega.{arith}
 use lib.Dec.{eqb}
 use lib.ListN.{length, drop}
 use borrow.Author.Tests.{eq-eqb, ne-eqb}
 use Rattle.octets.specs.Part.{part, same, octetIs}
 use Rattle.octets.specs.Search.{least}
+use Rattle.octets.proofs.Fields.{part-join, part-whole}
+use Rattle.octets.proofs.Parts.{length-part}
+use Rattle.text.specs.Laws.{halves}
 use Rattle.text.specs.Text.{text, readDigits, numberRead}
 use Rattle.text.specs.declared.Reading.{Reading}
 use Rattle.text.specs.declared.Reading.the-variants.{Number, NotDigits}
+use Rattle.text.proofs.Texts.{read-halves}
+use Rattle.address.specs.Address.{addressOf, widthOf}
 use Rattle.network.specs.Plmn.{plmnOption}
 use Rattle.network.specs.declared.MaybePlmn.{MaybePlmn}
 use Rattle.network.specs.declared.MaybePlmn.the-variants.{Is, None}
 use Rattle.network.specs.declared.Plmn.{Plmn}
-use Rattle.entry.specs.Entry.{barEntry, homeEntry, plmnEntry, nameEntry, v4From, v4Entry, v6From, v6Entry, nodeEntry, three, four, entryOf, lineEntry}
+use Rattle.entry.specs.Entry.{barEntry, homeEntry, plmnEntry, nameEntry, addressEntry, versionEntry, nodeEntry, three, four, entryOf, lineEntry}
 use Rattle.entry.specs.Field.{plmnOf, priorityOf}
 use Rattle.entry.specs.Pieces.{before, pieces}
-use Rattle.entry.specs.declared.Entry.the-variants.{Preference, Bad}
+use Rattle.entry.specs.declared.Entry.the-variants.{Node, Preference, Bad}
 use Rattle.entry.proofs.Splits.{split, whole}
 
 -- the word of a line picks its kind
@@ -31,12 +36,12 @@ module _ (k l : List ℕ) where
   by-name e = rw e
 
   module _ (not-name : same k (text "name") ≡ false) where
-    pub by-v4 : same k (text "v4") ≡ true → v4Entry l ≡ nodeEntry k l
+    pub by-v4 : same k (text "v4") ≡ true → versionEntry 4 l ≡ nodeEntry k l
     unfolding nodeEntry
     by-v4 e = rw (not-name, e)
 
     module _ (not-v4 : same k (text "v4") ≡ false) where
-      pub by-v6 : same k (text "v6") ≡ true → v6Entry l ≡ nodeEntry k l
+      pub by-v6 : same k (text "v6") ≡ true → versionEntry 6 l ≡ nodeEntry k l
       unfolding nodeEntry
       by-v6 e = rw (not-name, not-v4, e)
 
@@ -102,26 +107,41 @@ module _ (o : Option ℕ) (r : Reading) (read : numberRead r ≡ o) where
   unfolding numberRead
   unsaid e = sym read ∙ ap numberRead e
 
-module _ (l : List ℕ) where
-  pub v4-size : (length l ≡ 8 → ⊥) → Bad ≡ v4Entry l
-  unfolding v4Entry
-  v4-size h = rw (ne-eqb (length l) 8 h)
+-- the digits of an address
+module _ (version : ℕ) (l : List ℕ) where
+  pub wrong-size : (length l ≡ 2 * widthOf version → ⊥) → Bad ≡ versionEntry version l
+  unfolding versionEntry
+  wrong-size h = rw (ne-eqb (length l) (2 * widthOf version) h)
 
-  pub v4-is : length l ≡ 8 → v4From (readDigits 16 l) ≡ v4Entry l
-  unfolding v4Entry
-  v4-is e = rw (eq-eqb (length l) 8 e)
+  module _ (size : length l ≡ 2 * widthOf version) where
+    pub no-digits : readDigits 16 l ≡ none → Bad ≡ versionEntry version l
+    unfolding versionEntry addressEntry
+    no-digits e = rw (eq-eqb (length l) (2 * widthOf version) size, e)
 
-  pub v6-size : (length l ≡ 32 → ⊥) → Bad ≡ v6Entry l
-  unfolding v6Entry
-  v6-size h = rw (ne-eqb (length l) 32 h)
+    pub by-digits : {x : ℕ} → readDigits 16 l ≡ some x → Node (addressOf version x) ≡ versionEntry version l
+    unfolding versionEntry addressEntry
+    by-digits e = rw (eq-eqb (length l) (2 * widthOf version) size, e)
 
-  pub v6-no-high : length l ≡ 32 → readDigits 16 (part l 0 16) ≡ none → Bad ≡ v6Entry l
-  unfolding v6Entry v6From
-  v6-no-high e h = rw (eq-eqb (length l) 32 e, h)
+-- a text of two halves of n characters says a number of two halves
+module _ (l : List ℕ) (n : ℕ) (size : length l ≡ n + n) where
+  two-halves : readDigits 16 l ≡ halves (16 ^ n) (readDigits 16 (part l 0 n)) (readDigits 16 (part l n n))
+  two-halves =
+      ap (readDigits 16) (sym (part-whole l) ∙ ap (part l 0) size ∙ sym (part-join l 0 n n))
+      ∙ read-halves 16 (part l 0 n) (part l (0 + n) n)
+      ∙ ap₂ (λ (k at : ℕ). halves (16 ^ k) (readDigits 16 (part l 0 n)) (readDigits 16 (part l at n))) (length-part l (0 + n) n (omega arith)) (zero-add n)
 
-  pub v6-is : length l ≡ 32 → v6From (readDigits 16 (part l 0 16)) (readDigits 16 (part l 16 16)) ≡ v6Entry l
-  unfolding v6Entry
-  v6-is e = rw (eq-eqb (length l) 32 e)
+  pub no-high : readDigits 16 (part l 0 n) ≡ none → readDigits 16 l ≡ none
+  unfolding halves
+  no-high e = two-halves ∙ rw e
+
+  module _ {x : ℕ} (high : readDigits 16 (part l 0 n) ≡ some x) where
+    pub no-low : readDigits 16 (part l n n) ≡ none → readDigits 16 l ≡ none
+    unfolding halves
+    no-low e = two-halves ∙ rw (high, e)
+
+    pub both-halves : {y : ℕ} → readDigits 16 (part l n n) ≡ some y → readDigits 16 l ≡ some (x * 16 ^ n + y)
+    unfolding halves
+    both-halves e = two-halves ∙ rw (high, e)
 
 -- a text has a first piece
 pub some-piece : (x : ℕ) (l : List ℕ) → (p : List ℕ) × (ps : List (List ℕ)) × (pieces x l ≡ p ∷ ps)

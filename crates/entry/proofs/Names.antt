@@ -1,5 +1,5 @@
 -- A line that gives a node name has the octets of `beforeName` before the name.
-use Prim.Native.Nat.{ℕ, suc, _+_}
+use Prim.Native.Nat.{ℕ, suc, _+_, _*_}
 use mathlib.Core.Bool.{Bool, true, false, cond}
 use mathlib.Core.List.{List, [], _∷_}
 use mathlib.Core.Option.{Option, none, some}
@@ -7,11 +7,12 @@ use mathlib.Core.Path.{_≡_, refl, sym, ap, _∙_}
 use native.Mathlib.Omega.{arith}
 use lib.Dec.{eqb}
 use lib.ListN.{length}
-use Rattle.octets.specs.Part.{part, same}
+use Rattle.octets.specs.Part.{same}
 use Rattle.octets.proofs.Parts.{same-equal}
 use Rattle.text.specs.Text.{text, character, readDigits}
 use Rattle.network.specs.declared.Plmn.{Plmn}
-use Rattle.entry.specs.Entry.{barEntry, beforeName, homeEntry, plmnEntry, nameEntry, v4From, v4Entry, v6From, v6Entry, nodeEntry, three, four, entryOf, lineEntry}
+use Rattle.entry.specs.Entry.{barEntry, beforeName, homeEntry, plmnEntry, nameEntry, nodeEntry, three, four, entryOf, lineEntry, addressEntry, versionEntry}
+use Rattle.address.specs.Address.{widthOf}
 use Rattle.entry.specs.Field.{plmnOf, priorityOf, isName}
 use Rattle.entry.specs.Pieces.{before, pieces}
 use Rattle.entry.specs.declared.Entry.{Entry}
@@ -62,18 +63,11 @@ module _ (m : ℕ) where
   no-preference-line (some p) none = tt
   no-preference-line (some p) (some x) = tt
 
-  no-v4-line : (t : Bool) (x : Option ℕ) → NameLine (cond t (v4From x) Bad) m
-  unfolding v4From
-  no-v4-line true none = tt
-  no-v4-line true (some x) = tt
-  no-v4-line false x = tt
-
-  no-v6-line : (t : Bool) (x y : Option ℕ) → NameLine (cond t (v6From x y) Bad) m
-  unfolding v6From
-  no-v6-line true none y = tt
-  no-v6-line true (some x) none = tt
-  no-v6-line true (some x) (some y) = tt
-  no-v6-line false x y = tt
+  no-address-line : (version : ℕ) (t : Bool) (x : Option ℕ) → NameLine (cond t (addressEntry version x) Bad) m
+  unfolding addressEntry
+  no-address-line version true none = tt
+  no-address-line version true (some x) = tt
+  no-address-line version false x = tt
 
   -- the three fields of a line of m octets
   module _ (w k l : List ℕ) (whole : size (w ∷ k ∷ l ∷ []) ≡ suc m) where
@@ -83,15 +77,18 @@ module _ (m : ℕ) where
     name-line false e f = tt
 
     node-line : length w ≡ 4 → NameLine (nodeEntry k l) m
-    unfolding nodeEntry nameEntry v4Entry v6Entry text character
+    unfolding nodeEntry nameEntry versionEntry text character
     node-line e = go (same k (text "name")) refl
       where
-        other : (t u : Bool) → NameLine (cond t (v4Entry l) (cond u (v6Entry l) Bad)) m
-        other true u = no-v4-line (eqb (length l) 8) (readDigits 16 l)
-        other false true = no-v6-line (eqb (length l) 32) (readDigits 16 (part l 0 16)) (readDigits 16 (part l 16 16))
+        address-line : (version : ℕ) → NameLine (versionEntry version l) m
+        address-line version = no-address-line version (eqb (length l) (2 * widthOf version)) (readDigits 16 l)
+
+        other : (t u : Bool) → NameLine (cond t (versionEntry 4 l) (cond u (versionEntry 6 l) Bad)) m
+        other true u = address-line 4
+        other false true = address-line 6
         other false false = tt
 
-        go : (t : Bool) → same k (text "name") ≡ t → NameLine (cond t (nameEntry l) (cond (same k (text "v4")) (v4Entry l) (cond (same k (text "v6")) (v6Entry l) Bad))) m
+        go : (t : Bool) → same k (text "name") ≡ t → NameLine (cond t (nameEntry l) (cond (same k (text "v4")) (versionEntry 4 l) (cond (same k (text "v6")) (versionEntry 6 l) Bad))) m
         go true q = name-line (isName l) e (ap length (same-equal k (text "name") q))
         go false q = other (same k (text "v4")) (same k (text "v6"))
 

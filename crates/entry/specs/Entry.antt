@@ -1,14 +1,14 @@
 -- One line of the configuration text, by its fields.
-use Prim.Native.Nat.{ℕ, _+_}
+use Prim.Native.Nat.{ℕ, _+_, _*_}
 use mathlib.Core.Bool.{cond}
 use mathlib.Core.List.{List, [], _∷_}
 use mathlib.Core.Option.{Option, none, some}
 use lib.Dec.{eqb}
 use lib.ListN.{length}
-use Rattle.octets.specs.Part.{part, same}
+use Rattle.octets.specs.Part.{same}
 use Rattle.text.specs.Text.{text, readDigits}
 use Rattle.network.specs.declared.Plmn.{Plmn}
-use Rattle.address.specs.declared.Address.the-variants.{V4, V6}
+use Rattle.address.specs.Address.{addressOf, widthOf}
 use Rattle.entry.specs.Field.{plmnOf, priorityOf, isName}
 use Rattle.entry.specs.Pieces.{pieces}
 use Rattle.entry.specs.declared.Entry.{Entry}
@@ -38,27 +38,18 @@ beforeName = length (text "node") + 1 + length (text "name") + 1
 unfoldable pub nameEntry : List ℕ → Entry
 nameEntry l = cond (isName l) (Name (length l)) Bad
 
-unfoldable pub v4From : Option ℕ → Entry
-v4From none = Bad
-v4From (some x) = Node (V4 x)
+unfoldable pub addressEntry : ℕ → Option ℕ → Entry
+addressEntry version none = Bad
+addressEntry version (some x) = Node (addressOf version x)
 
--- version 4 has 8 hexadecimal digits
-unfoldable pub v4Entry : List ℕ → Entry
-v4Entry l = cond (eqb (length l) 8) (v4From (readDigits 16 l)) Bad
-
-unfoldable pub v6From : Option ℕ → Option ℕ → Entry
-v6From none y = Bad
-v6From (some x) none = Bad
-v6From (some x) (some y) = Node (V6 x y)
-
--- version 6 has 32, kept as two halves
-unfoldable pub v6Entry : List ℕ → Entry
-v6Entry l = cond (eqb (length l) 32) (v6From (readDigits 16 (part l 0 16)) (readDigits 16 (part l 16 16))) Bad
+-- an address has two hexadecimal digits an octet: 8 for version 4, 32 for version 6
+unfoldable pub versionEntry : ℕ → List ℕ → Entry
+versionEntry version l = cond (eqb (length l) (2 * widthOf version)) (addressEntry version (readDigits 16 l)) Bad
 
 -- `node` goes on with `name` and a name, or with a version and an address
 unfoldable pub nodeEntry : List ℕ → List ℕ → Entry
 nodeEntry kind l =
-    cond (same kind (text "name")) (nameEntry l) (cond (same kind (text "v4")) (v4Entry l) (cond (same kind (text "v6")) (v6Entry l) Bad))
+    cond (same kind (text "name")) (nameEntry l) (cond (same kind (text "v4")) (versionEntry 4 l) (cond (same kind (text "v6")) (versionEntry 6 l) Bad))
 
 -- an entry of three fields
 unfoldable pub three : List ℕ → List ℕ → List ℕ → Entry

@@ -14,7 +14,7 @@ use octets::slice::same;
 use text::Reading;
 use text::read_digits;
 ghost use mathlib.Core.Path.{_≡_};
-ghost use Rattle.entry.specs.Entry.{barEntry, four, homeEntry, lineEntry, nameEntry, nodeEntry, three, v4Entry, v6Entry};
+ghost use Rattle.entry.specs.Entry.{barEntry, four, homeEntry, lineEntry, nameEntry, nodeEntry, three, versionEntry};
 ghost use Rattle.entry.specs.Field.{plmnOf};
 
 // The octets of a line before a node name: `node`, a tab, `name` and a tab.
@@ -45,7 +45,7 @@ fn name(field: &[u8]) -> Entry
 
 // A node address of version 4.
 fn version_4(field: &[u8]) -> Entry
-    ensures { λ r. ⌜ r ≡ v4Entry (now (field .entry)) ⌝ }
+    ensures { λ r. ⌜ r ≡ versionEntry 4 (now (field .entry)) ⌝ }
 {
     if field.len() != 8 {
         return Entry::Bad;
@@ -58,7 +58,7 @@ fn version_4(field: &[u8]) -> Entry
 
 // A node address of version 6.
 fn version_6(field: &[u8]) -> Entry
-    ensures { λ r. ⌜ r ≡ v6Entry (now (field .entry)) ⌝ }
+    ensures { λ r. ⌜ r ≡ versionEntry 6 (now (field .entry)) ⌝ }
 {
     if field.len() != 32 {
         return Entry::Bad;

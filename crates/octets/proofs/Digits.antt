@@ -1,20 +1,20 @@
 -- The laws of numbers in a base, over the base and the count of digits.
 use Prim.Native.Nat.{ℕ, zero, suc, _+_, _-_, _*_, _/_, _%_, _^_, _≤_, _<_, zero-le}
-use mathlib.Core.Bool.{true}
+use mathlib.Core.Bool.{Bool, true, false, _&&_}
 use mathlib.Core.List.{List, [], _∷_, _++_, append-assoc, append-nil}
 use mathlib.Core.Path.{_≡_, refl, sym, ap, ap₂, _∙_, subst}
-use native.Mathlib.Nat.{add-zero, add-suc, zero-mul, zero-add, mul-one, pow-zero, pow-suc, pow-succ', div-add-mod', div-lt-iff-lt-mul, mod-lt, mod-eq-of-lt, not-suc-le-zero, zero-lt-suc, lt-of-le-of-lt, lt-of-lt-of-le, pow-le-pow-right, mul-zero}
+use native.Mathlib.Nat.{add-zero, add-suc, zero-mul, zero-add, mul-one, pow-zero, pow-suc, pow-succ', div-add-mod', div-lt-iff-lt-mul, mod-lt, mod-eq-of-lt, mul-assoc, not-suc-le-zero, zero-lt-suc, lt-of-le-of-lt, lt-of-lt-of-le, pow-le-pow-right, mul-zero}
 use native.Mathlib.Numerals.{add-one, one-add}
 use native.Mathlib.Omega.{arith}
 use lib.Arith.{digits-div, digits-mod, digits-lt, lt-one}
-use lib.Dec.{ltb}
+use lib.Dec.{ltb, eqb}
 use lib.ListN.{length, getD, drop, length-append, drop-of-length-le}
 use lib.Seq.{drop-cons}
-use borrow.Author.Tests.{ltb-true}
+use borrow.Author.Tests.{ltb-true, eqb-true, eqb-false, eq-eqb}
 use Rattle.octets.specs.Digits.{digits, numberFrom, number}
 use Rattle.octets.specs.Laws.{below}
 use Rattle.octets.specs.Search.{allOf}
-use Rattle.octets.proofs.Search.{and-left, and-right}
+use Rattle.octets.proofs.Search.{and-left, and-right, and-true}
 
 pub length-digits : (b n x : ℕ) → length (digits b n x) ≡ n
 unfolding digits
@@ -39,6 +39,10 @@ numberFrom-split b x (d ∷ ds) =
     ∙ shift b x d (b ^ length ds) (number b ds)
     ∙ ap₂ (λ (k m : ℕ). x * k + m) (sym (pow-succ' b (length ds)))
     (sym (numberFrom-split b (0 * b + d) ds ∙ ap (λ (k : ℕ). k * b ^ length ds + number b ds) (ap (λ (k : ℕ). k + d) (zero-mul b) ∙ zero-add d)))
+
+pub number-halves : (b : ℕ) (ds es : List ℕ) → number b (ds ++ es) ≡ number b ds * b ^ length es + number b es
+unfolding number
+number-halves b ds es = numberFrom-append b 0 ds es ∙ numberFrom-split b (number b ds) es
 
 -- the first digit counts by the base's power
 pub number-cons : (b d : ℕ) (ds : List ℕ) → number b (d ∷ ds) ≡ d * b ^ length ds + number b ds
@@ -91,6 +95,22 @@ digits-halves b m (suc n) high low h =
     ∙ ap (λ (l : List ℕ). l ++ low % b ∷ []) (digits-halves b m n high (low / b) (upper-below b n low h))
     ∙ append-assoc (digits b m high) (digits b n (low / b)) (low % b ∷ [])
 
+-- two numbers of two halves are equal exactly if both halves are
+pub halves-same : (b h l i m : ℕ) → l < b → m < b → eqb h i && eqb l m ≡ eqb (h * b + l) (i * b + m)
+halves-same b h l i m p q = go (eqb (h * b + l) (i * b + m)) refl
+  where
+    go : (t : Bool) → eqb (h * b + l) (i * b + m) ≡ t → eqb h i && eqb l m ≡ t
+    go true e =
+        let same = eqb-true (h * b + l) (i * b + m) e in
+        and-true (eqb h i) (eqb l m) (eq-eqb h i (sym (digits-div h p) ∙ ap (λ (x : ℕ). x / b) same ∙ digits-div i q))
+        (eq-eqb l m (sym (digits-mod h p) ∙ ap (λ (x : ℕ). x % b) same ∙ digits-mod i q))
+    go false e = both (eqb h i) refl (eqb l m) refl
+      where
+        both : (s : Bool) → eqb h i ≡ s → (t : Bool) → eqb l m ≡ t → s && t ≡ false
+        both true f true g = absurd (eqb-false (h * b + l) (i * b + m) e (ap₂ (λ (x y : ℕ). x * b + y) (eqb-true h i f) (eqb-true l m g)))
+        both true f false g = refl
+        both false f t g = refl
+
 -- a digit is written as itself
 one-digit : (b d : ℕ) → d < b → digits b 1 d ≡ d ∷ []
 unfolding digits
@@ -131,3 +151,11 @@ digits-last b zero x h = absurd (not-suc-le-zero h)
 digits-last b (suc n) x h =
     let e : n ≡ suc n - 1 = omega arith in
     ap (λ (k : ℕ). digits b k (x / b) ++ x % b ∷ []) e
+
+-- two digits are one of the base squared
+pub digit-pairs : (b n : ℕ) → b ^ (2 * n) ≡ (b * b) ^ n
+digit-pairs b zero = pow-zero b ∙ sym (pow-zero (b * b))
+digit-pairs b (suc n) =
+    let e : 2 * suc n ≡ suc (suc (2 * n)) = omega arith in
+    ap (λ (k : ℕ). b ^ k) e ∙ pow-suc b (suc (2 * n)) ∙ ap (λ (k : ℕ). k * b) (pow-suc b (2 * n)) ∙ ap (λ (k : ℕ). k * b * b) (digit-pairs b n)
+    ∙ mul-assoc ((b * b) ^ n) b b ∙ sym (pow-suc (b * b) n)

@@ -1,15 +1,15 @@
 -- Fields of a list of octets: written back as the octets that they were read from, and parts that follow one another.
-use Prim.Native.Nat.{ℕ, zero, suc, _+_, _^_, _≤_, _<_}
+use Prim.Native.Nat.{ℕ, zero, suc, _+_, _*_, _^_, _≤_, _<_}
 use mathlib.Core.Bool.{Bool, true}
 use mathlib.Core.List.{List, [], _∷_, _++_}
 use mathlib.Core.Path.{_≡_, refl, sym, ap, ap₂, _∙_, subst}
 use lib.ListN.{length, take, drop}
 use lib.Seq.{take-add, drop-drop, take-length}
-use Rattle.octets.specs.Digits.{be, field}
+use Rattle.octets.specs.Digits.{be, field, number}
 use Rattle.octets.specs.Laws.{below}
 use Rattle.octets.specs.Part.{part, zeros, zerosAt}
 use Rattle.octets.specs.Search.{allOf}
-use Rattle.octets.proofs.Digits.{digits-number, number-below}
+use Rattle.octets.proofs.Digits.{digits-number, number-below, number-halves}
 use Rattle.octets.proofs.Parts.{length-part, same-equal}
 use Rattle.octets.proofs.Search.{and-left, and-right, and-true}
 
@@ -59,6 +59,13 @@ part-join l at m n = ap (λ (k : List ℕ). take m (drop at l) ++ take n k) (sym
 -- octets that follow one another
 pub follow : (l : List ℕ) (at a b : ℕ) {vs ws : List ℕ} → vs ≡ part l at a → ws ≡ part l (at + a) b → vs ++ ws ≡ part l at (a + b)
 follow l at a b e f = ap₂ (λ (x y : List ℕ). x ++ y) e f ∙ part-join l at a b
+
+-- two fields that follow one another are the halves of one
+pub field-halves : (l : List ℕ) (at m n : ℕ) → at + m + n ≤ length l → field l at (m + n) ≡ field l at m * 256 ^ n + field l (at + m) n
+unfolding field
+field-halves l at m n h =
+    ap (number 256) (sym (part-join l at m n)) ∙ number-halves 256 (part l at m) (part l (at + m) n)
+    ∙ ap (λ (k : ℕ). number 256 (part l at m) * 256 ^ k + number 256 (part l (at + m) n)) (length-part l (at + m) n h)
 
 pub part-whole : (l : List ℕ) → part l 0 (length l) ≡ l
 unfolding part

@@ -21,6 +21,8 @@ pub record Laws : Type 0 where
   pub digits-number : (b : ℕ) (ds : List ℕ) → allOf (below b) ds ≡ true → digits b (length ds) (number b ds) ≡ ds
   -- a number of two halves is written half by half
   pub digits-halves : (b m n high low : ℕ) → low < b ^ n → digits b (m + n) (high * b ^ n + low) ≡ digits b m high ++ digits b n low
+  -- digits of two halves are read half by half
+  pub number-halves : (b : ℕ) (ds es : List ℕ) → number b (ds ++ es) ≡ number b ds * b ^ length es + number b es
   -- two lists hold the same octets exactly if they are equal
   pub same-equal : (l m : List ℕ) → same l m ≡ true → l ≡ m
   pub equal-same : (l : List ℕ) → same l l ≡ true

@@ -1,6 +1,6 @@
 -- What the first octet of a place, and of a registered PLMN, decides.
 use Prim.Native.Nat.{ℕ, _+_, _≤_, _<_}
-use mathlib.Core.Bool.{Bool, true, false, _&&_, _||_}
+use mathlib.Core.Bool.{Bool, true, false, _&&_}
 use mathlib.Core.List.{List}
 use mathlib.Core.Path.{_≡_, refl, sym, _∙_}
 use lib.Dec.{leb, eqb}
@@ -9,6 +9,7 @@ use Rattle.octets.specs.Digits.{field}
 use Rattle.octets.specs.Part.{zerosAt}
 use Rattle.octets.proofs.Search.{and-false}
 use Rattle.network.specs.declared.MaybePlmn.the-variants.{Is, None}
+use Rattle.address.specs.Address.{isVersion}
 use Rattle.place.specs.declared.Place.the-variants.{Unknown, Home, Abroad}
 use Rattle.phase.specs.Branch.{isPlace, isRegistered}
 use Rattle.phase.specs.Facts.{placeFrom, placeFits, placeWritten, registeredFrom, registeredFits, registeredWritten, factsFrom, factsFit, factsWritten}
@@ -69,11 +70,11 @@ module _ (l : List ℕ) (at : ℕ) where
   abbrev kept : Bool
   kept = factsWritten l at && factsFit (factsFrom l at)
 
-  one-by-one : isPlace l at && isRegistered l (at + 3) && (eqb (field l (at + 8) 1) 4 || eqb (field l (at + 8) 1) 6) ≡ kept
+  one-by-one : isPlace l at && isRegistered l (at + 3) && isVersion (field l (at + 8) 1) ≡ kept
   unfolding isPlace isRegistered factsWritten factsFit factsFrom
   one-by-one =
       and-pairs (placeWritten l at) (registeredWritten l (at + 3)) (placeFits (placeFrom l at)) (registeredFits (registeredFrom l (at + 3)))
-      (eqb (field l (at + 8) 1) 4 || eqb (field l (at + 8) 1) 6)
+      (isVersion (field l (at + 8) 1))
 
   pub by-place : isPlace l at ≡ false → false ≡ kept
   by-place e = rw e at one-by-one
@@ -84,7 +85,9 @@ module _ (l : List ℕ) (at : ℕ) where
 
     module _ (registered : isRegistered l (at + 3) ≡ true) (v : ℕ) (of : v ≡ field l (at + 8) 1) where
       pub version-4 : v ≡ 4 → true ≡ kept
+      unfolding isVersion
       version-4 e = rw (place, registered, sym of ∙ e) at one-by-one
 
       pub version-6 : (v ≡ 4 → ⊥) → eqb v 6 ≡ kept
+      unfolding isVersion
       version-6 h = rw (place, registered, isnt (field l (at + 8) 1) v 4 of h, ← of) at one-by-one

@@ -1,23 +1,25 @@
 -- A phase in range is read back from its octets, part by part, and what is read is in range.
 use Prim.Native.Nat.{ℕ, _+_, _≤_, _<_}
-use mathlib.Core.Bool.{true, _&&_, _||_, false≢true}
+use mathlib.Core.Bool.{true, _&&_, false≢true}
 use mathlib.Core.List.{List, _++_}
 use mathlib.Core.Path.{_≡_, refl}
 use native.Mathlib.Omega.{arith}
 use lib.Dec.{leb, ltb, eqb}
 use lib.ListN.{length}
-use borrow.Author.Tests.{leb-true, ltb-true, eqb-true, lt-ltb, ne-eqb}
+use borrow.Author.Tests.{leb-true, ltb-true, lt-ltb}
 use Rattle.octets.specs.Digits.{be, digits, field}
 use Rattle.octets.specs.Laws.{below}
 use Rattle.octets.specs.Part.{part, zeros, zerosAt}
 use Rattle.octets.specs.Search.{allOf}
 use Rattle.octets.proofs.Fields.{field-below}
 use Rattle.octets.proofs.Parts.{both}
-use Rattle.octets.proofs.Search.{and-left, and-right, and-true, cond-passes, either}
+use Rattle.octets.proofs.Search.{and-left, and-right, and-true, cond-passes}
 use Rattle.octets.proofs.Stands.{Stands, from-part, before, behind, says, zeros-stand}
 use Rattle.network.specs.declared.MaybePlmn.{MaybePlmn}
 use Rattle.network.specs.declared.MaybePlmn.the-variants.{Is, None}
+use Rattle.address.specs.Address.{isVersion}
 use Rattle.address.specs.declared.Address.{Address}
+use Rattle.address.proofs.Numbers.{version-small}
 use Rattle.addresses.specs.Addresses.{addressOctets, addressFrom, isAddress}
 use Rattle.addresses.specs.Laws.{addressStorable}
 use Rattle.addresses.proofs.RoundTrip as Addresses
@@ -33,15 +35,6 @@ use Rattle.phase.specs.declared.Phase.the-variants.{Idle, Country, Name,
 use Rattle.phase.specs.declared.Turn.{Turn}
 use Rattle.phase.specs.declared.Turn.the-variants.{First, Owed, Answered}
 use Rattle.phase.proofs.Writes.{place-length, registered-length, facts-length}
-
--- a local IP version fits its octet
-version-small : (v : ℕ) → eqb v 4 || eqb v 6 ≡ true → v < 256
-version-small v h = either v 4 (λ e. omega arith) (λ n. version-6 n)
-  where
-    version-6 : (v ≡ 4 → ⊥) → v < 256
-    version-6 n =
-        let e : v ≡ 6 = eqb-true v 6 (rw (ne-eqb v 4 n) at h) in
-        omega arith
 
 module _ (l : List ℕ) (at : ℕ) {r : List ℕ} where
   place-back : (p : Place) → placeFits p ≡ true → Stands l at (placeOctets p) r → (placeFrom l at ≡ p) × (placeWritten l at ≡ true)
@@ -92,13 +85,13 @@ module _ (l : List ℕ) (at : ℕ) {r : List ℕ} where
       let p = f .place in
       let q = f .registered in
       let v = f .version in
-      let fits = and-left (placeFits p && registeredFits q) (eqb v 4 || eqb v 6) h in
+      let fits = and-left (placeFits p && registeredFits q) (isVersion v) h in
       let two = before (placeOctets p ++ registeredOctets q) (be 1 v) e in
       let place = place-back l at p (and-left (placeFits p) (registeredFits q) fits) (before (placeOctets p) (registeredOctets q) two) in
       let registered =
       registered-back l (at + 3) q (and-right (placeFits p) (registeredFits q) fits)
       (behind (placeOctets p) (registeredOctets q) 3 (place-length p) two) in
-      let small : v < 256 = version-small v (and-right (placeFits p && registeredFits q) (eqb v 4 || eqb v 6) h) in
+      let small : v < 256 = version-small v (and-right (placeFits p && registeredFits q) (isVersion v) h) in
       let version : field l (at + 8) 1 ≡ v =
       says 1 v (omega arith)
       (behind (placeOctets p ++ registeredOctets q) (be 1 v) 8 (both (placeOctets p) (registeredOctets q) 3 5 (place-length p) (registered-length q)) e) in

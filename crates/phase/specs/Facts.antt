@@ -8,6 +8,7 @@ use Rattle.octets.specs.Part.{zerosAt}
 use Rattle.network.specs.Plmn.{mostCode, plmnFits}
 use Rattle.network.specs.declared.MaybePlmn.{MaybePlmn}
 use Rattle.network.specs.declared.MaybePlmn.the-variants.{Is, None}
+use Rattle.address.specs.Address.{isVersion}
 use Rattle.place.specs.declared.Facts.{Facts}
 use Rattle.place.specs.declared.Place.{Place}
 use Rattle.place.specs.declared.Place.the-variants.{Unknown, Home, Abroad}
@@ -56,4 +57,4 @@ registeredFits (Is p) = plmnFits p
 
 -- the local IP version is 4 or 6
 unfoldable pub factsFit : Facts → Bool
-factsFit f = placeFits (f .place) && registeredFits (f .registered) && (eqb (f .version) 4 || eqb (f .version) 6)
+factsFit f = placeFits (f .place) && registeredFits (f .registered) && isVersion (f .version)

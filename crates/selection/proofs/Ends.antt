@@ -1,6 +1,6 @@
 -- Selection stops exactly where the step reached has nothing that is permitted.
 use Prim.Native.Nat.{ℕ}
-use mathlib.Core.Bool.{Bool, true, false, cond, _&&_, _||_, false≢true, true≢false}
+use mathlib.Core.Bool.{Bool, true, false, cond, not, _&&_, _||_, false≢true, true≢false}
 use mathlib.Core.List.{List, [], _∷_}
 use mathlib.Core.Option.{Option, none, some}
 use mathlib.Core.Path.{_≡_, refl, sym, ap, ap₂, _∙_}
@@ -12,9 +12,9 @@ use Rattle.octets.specs.Row.{place, first, keep, only}
 use Rattle.octets.proofs.Search.{and-left, and-right, and-true, or-true}
 use Rattle.network.specs.Plmn.{samePlmn, among}
 use Rattle.network.specs.declared.Plmn.{Plmn}
-use Rattle.address.specs.Address.{sameAddress, stands, permitted}
+use Rattle.address.specs.Address.{numberOf, permitted, sameAddress, stands, versionOf}
 use Rattle.address.specs.declared.Address.{Address}
-use Rattle.address.specs.declared.Address.the-variants.{V4, V6}
+use Rattle.address.proofs.Numbers.{same-parts, same-self}
 use Rattle.entry.specs.declared.field.Preferred.{Preferred}
 use Rattle.config.specs.Settings.{plmnIn, Settings}
 use Rattle.config.specs.declared.Node.{Node}
@@ -37,10 +37,6 @@ hasPlmn : Option Plmn → Bool
 hasPlmn none = false
 hasPlmn (some p) = true
 
-numberOf : Option ℕ → ℕ
-numberOf none = 0
-numberOf (some n) = n
-
 not-there : {n : ℕ} → none ≡ some n → ⊥
 unfolding valued
 not-there e = false≢true (ap valued e)
@@ -50,8 +46,7 @@ unfolding hasPlmn
 plmn-there e = true≢false (ap hasPlmn e)
 
 same-number : {m n : ℕ} → some m ≡ some n → n ≡ m
-unfolding numberOf
-same-number e = sym (ap numberOf e)
+same-number e = cc
 
 -- no stop where a name is asked, and one stop at a step that always stops
 asking : Exactly (λ n. ⊥) none
@@ -60,18 +55,12 @@ asking = record { only-there = λ n e. not-there e; always-there = λ n h. absur
 stopping : (m : ℕ) → Exactly (λ n. n ≡ m) (some m)
 stopping m = record { only-there = λ n e. same-number e; always-there = λ n e. ap some (sym e) }
 
--- an address that stands in a list
-same-self : (a : Address) → sameAddress a a ≡ true
-unfolding sameAddress
-same-self (V4 x) = eq-eqb x x refl
-same-self (V6 h l) = and-true (eqb h h) (eqb l l) (eq-eqb h h refl) (eq-eqb l l refl)
-
-same-address : (a b : Address) → sameAddress a b ≡ true → a ≡ b
-unfolding sameAddress
-same-address (V4 x) (V4 y) e = ap V4 (eqb-true x y e)
-same-address (V4 x) (V6 h l) e = absurd (false≢true e)
-same-address (V6 h l) (V4 x) e = absurd (false≢true e)
-same-address (V6 h l) (V6 i m) e = ap₂ V6 (eqb-true h i (and-left (eqb h i) (eqb l m) e)) (eqb-true l m (and-right (eqb h i) (eqb l m) e))
+-- of the same address both or neither are permitted
+same-permitted : (version : ℕ) (held : List Address) (a b : Address) → sameAddress a b ≡ true → permitted version held a ≡ permitted version held b
+unfolding permitted stands sameAddress
+same-permitted version held a b e =
+    let parts = same-parts a b e in
+    ap₂ (λ (v n : ℕ). eqb v version && not (anyOf (λ (x : Address). eqb v (versionOf x) && eqb n (numberOf x)) held)) (parts .0) (parts .1)
 
 -- S5: nothing is chosen exactly where no address of the list is permitted
 module _ (version : ℕ) (held : List Address) where
@@ -103,7 +92,7 @@ module _ (version : ℕ) (held : List Address) where
           (rest .0, λ a s. first-or-true a (sameAddress a x) refl s (rest .1 a))
         where
           first-or-true : (a : Address) (t : Bool) → sameAddress a x ≡ t → t || stands a xs ≡ true → (stands a xs ≡ true → p a ≡ false) → p a ≡ false
-          first-or-true a true m s later = ap p (same-address a x m) ∙ q
+          first-or-true a true m s later = same-permitted version held a x m ∙ q
           first-or-true a false m s later = later s
 
   s5-exactly : (s : Settings) (xs : List Address) → Exactly (Ends s version held (addresses xs)) (stopFound (choose version held xs))

@@ -1,7 +1,7 @@
 -- The laws of numbers as texts, over the base and the count of characters.
 use Prim.Native.Nat.{ℕ, zero, suc, _+_, _*_, _/_, _%_, _^_, _≤_, _<_}
-use mathlib.Core.Bool.{Bool, true, false, cond, _&&_, false≢true}
-use mathlib.Core.List.{List, [], _∷_, _++_, map}
+use mathlib.Core.Bool.{Bool, true, false, cond, _&&_, and-assoc, false≢true}
+use mathlib.Core.List.{List, [], _∷_, _++_, map, map-append}
 use mathlib.Core.Option.{Option, none, some}
 use mathlib.Core.Path.{_≡_, refl, sym, ap, ap₂, _∙_, subst}
 use native.Mathlib.Nat.{lt-of-lt-of-le, lt-irrefl, mod-lt}
@@ -15,8 +15,9 @@ use Rattle.octets.specs.Digits.{digits, number, numberFrom}
 use Rattle.octets.specs.Laws.{below}
 use Rattle.octets.specs.Search.{all, allOf, least}
 use Rattle.text.specs.Text.{character, digit, isDigit, digitText, readDigits, decimal, decimalWidth, shortEnough}
-use Rattle.octets.proofs.Digits.{length-digits, number-digits, digits-number, base-positive}
+use Rattle.octets.proofs.Digits.{length-digits, number-digits, digits-number, base-positive, digits-halves, number-halves, number-below}
 use Rattle.octets.proofs.Search.{all-each, and-left, and-right, and-true, and-false, least-first}
+use Rattle.text.specs.Laws.{halves}
 
 -- a digit's character stands for it
 readsBack : ℕ → Bool
@@ -49,16 +50,17 @@ character-digit c h = go (ltb c 103) refl
         (when-true (ltb (digit c) 16) (eqb (character (digit c)) c) (all-each 103 writesBack refl c (ltb-true c 103 e)) (lt-ltb (digit c) 16 h))
     go false e = absurd (lt-irrefl 16 (subst (λ (k : ℕ). k < 16) (digit-high c (ltb-false c 103 e)) h))
 
-pub allOf-append : (p : ℕ → Bool) (l m : List ℕ) → allOf p l ≡ true → allOf p m ≡ true → allOf p (l ++ m) ≡ true
+allOf-append : (p : ℕ → Bool) (l m : List ℕ) → allOf p (l ++ m) ≡ allOf p l && allOf p m
 unfolding allOf
-allOf-append p [] m h k = k
-allOf-append p (x ∷ l) m h k = and-true (p x) (allOf p (l ++ m)) (and-left (p x) (allOf p l) h) (allOf-append p l m (and-right (p x) (allOf p l) h) k)
+allOf-append p [] m = refl
+allOf-append p (x ∷ l) m = ap (λ (t : Bool). p x && t) (allOf-append p l m) ∙ sym (and-assoc (p x) (allOf p l) (allOf p m))
 
 pub digits-below : (b n x : ℕ) → 0 < b → allOf (below b) (digits b n x) ≡ true
 unfolding digits allOf below
 digits-below b zero x h = refl
 digits-below b (suc n) x h =
-    allOf-append (below b) (digits b n (x / b)) (x % b ∷ []) (digits-below b n (x / b) h) (and-true (ltb (x % b) b) true (lt-ltb (x % b) b (mod-lt x h)) refl)
+    allOf-append (below b) (digits b n (x / b)) (x % b ∷ [])
+    ∙ and-true (allOf (below b) (digits b n (x / b))) (ltb (x % b) b && true) (digits-below b n (x / b) h) (and-true (ltb (x % b) b) true (lt-ltb (x % b) b (mod-lt x h)) refl)
 
 -- a number that fits n digits has digits of its base, also where it has none
 digits-fit : (b n x : ℕ) → x < b ^ n → allOf (below b) (digits b n x) ≡ true
@@ -108,6 +110,35 @@ write-text b x l h e =
     let small : allOf (below b) (map digit l) ≡ true = sym (allOf-digits b l) ∙ passed .0 in
     ap₂ (λ (n y : ℕ). map character (digits b n y)) (sym (length-map l digit)) (sym (passed .1))
     ∙ ap (map character) (digits-number b (map digit l) small) ∙ characters-digits b l h small
+
+-- a text of n characters says a number of n digits
+pub read-below : (b x : ℕ) (l : List ℕ) → readDigits b l ≡ some x → x < b ^ length l
+unfolding readDigits
+read-below b x l e =
+    let passed = some-passes (allOf (isDigit b) l) (number b (map digit l)) x e in
+    subst (λ (n : ℕ). x < b ^ n) (length-map l digit)
+    (subst (λ (y : ℕ). y < b ^ length (map digit l)) (passed .1) (number-below b (map digit l) (sym (allOf-digits b l) ∙ passed .0)))
+
+-- two texts are read together where each is read
+both-read : (s t : Bool) (p x y z : ℕ) → z ≡ x * p + y → cond (s && t) (some z) none ≡ halves p (cond s (some x) none) (cond t (some y) none)
+unfolding halves
+both-read true true p x y z e = ap some e
+both-read true false p x y z e = refl
+both-read false t p x y z e = refl
+
+pub read-halves : (b : ℕ) (l m : List ℕ) → readDigits b (l ++ m) ≡ halves (b ^ length m) (readDigits b l) (readDigits b m)
+unfolding readDigits
+read-halves b l m =
+    let whole : number b (map digit (l ++ m)) ≡ number b (map digit l) * b ^ length m + number b (map digit m) =
+    ap (number b) (map-append digit l m) ∙ number-halves b (map digit l) (map digit m)
+    ∙ ap (λ (n : ℕ). number b (map digit l) * b ^ n + number b (map digit m)) (length-map m digit) in
+    ap (λ (t : Bool). cond t (some (number b (map digit (l ++ m)))) none) (allOf-append (isDigit b) l m)
+    ∙ both-read (allOf (isDigit b) l) (allOf (isDigit b) m) (b ^ length m) (number b (map digit l)) (number b (map digit m)) (number b (map digit (l ++ m))) whole
+
+pub text-halves : (b m n high low : ℕ) → low < b ^ n → digitText b (m + n) (high * b ^ n + low) ≡ digitText b m high ++ digitText b n low
+unfolding digitText
+text-halves b m n high low h =
+    ap (map character) (digits-halves b m n high low h) ∙ map-append character (digits b m high) (digits b n low)
 
 pub length-digitText : (b n x : ℕ) → length (digitText b n x) ≡ n
 unfolding digitText

@@ -4,7 +4,9 @@ use borrow.Author.Needs.{needs}
 use Rattle.octets.specs.Digits.{be, digits}
 use Rattle.octets.specs.Part.{zeros}
 use Rattle.octets.proofs.Parts.{then}
+use Rattle.address.specs.Address.{numberOf, versionOf, widthOf}
 use Rattle.addresses.specs.Addresses.{addressOctets}
+use Rattle.addresses.proofs.Versions.{halves-wrote}
 use Rattle.addresses.proofs.put_address.Statement.{statement}
 use Rattle.addresses.proofs.put_address.Tie as tie
 
@@ -48,7 +50,7 @@ same-length : tie.Need-same-length
 same-length c = search needs
 
 returns : tie.Need-returns
-unfolding addressOctets be digits zeros
+unfolding addressOctets versionOf numberOf widthOf be digits zeros
 returns c =
     let third = c .before .before in
     let second = third .before .before .before .before in
@@ -59,12 +61,12 @@ same-length-2 : tie.Need-same-length-2
 same-length-2 c = search needs
 
 returns-2 : tie.Need-returns-2
-unfolding addressOctets be digits
+unfolding be digits
 returns-2 c =
     let third = c .before .before in
     let second = third .before .before .before .before in
     let first = second .before .before .before .before in
-    rw (first .before .before .before .a2 .given .1) (then (then (first .put4 .ensures) (second .put5 .ensures) refl) (third .put6 .ensures) refl)
+    rw (first .before .before .before .a2 .given .1) (halves-wrote _ _ (search needs) (then (then (first .put4 .ensures) (second .put5 .ensures) refl) (third .put6 .ensures) refl))
 
 pub put-address-spec : {M : Type 1} → statement M
 put-address-spec =

@@ -32,7 +32,7 @@ get-requires-4 c κs = search needs
 
 returns-2 : tie.Need-returns-2
 unfolding versionFrom
-returns-2 c = address-6 _ _ (c .before .before .before .get .result) (c .before .before .before .get .ensures .0) (c .before .before .if1 .left) _ _ (c .before .get3 .ensures .0) (c .get4 .ensures .0)
+returns-2 c = address-6 _ _ (c .before .before .before .get .result) (c .before .before .before .get .ensures .0) (c .before .before .if1 .left) (search needs) _ _ (c .before .get3 .ensures .0) (c .get4 .ensures .0) (c .get4 .ensures .1)
 
 pub read-address-spec : {M : Type 1} → statement M
 read-address-spec =

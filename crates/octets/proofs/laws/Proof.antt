@@ -1,5 +1,5 @@
 -- `octets::laws` meets its contract: each law is proved below proofs/.
-use Rattle.octets.proofs.Digits.{number-digits, digits-number, digits-halves}
+use Rattle.octets.proofs.Digits.{number-digits, digits-number, digits-halves, number-halves}
 use Rattle.octets.proofs.Parts.{same-equal, equal-same}
 use Rattle.octets.proofs.Refusals.{refusal-lowest, refusal-none}
 use Rattle.octets.proofs.Search.{all-each, each-all, least-bound, least-passes, least-first}
@@ -11,6 +11,7 @@ returns c = record {
   number-digits = number-digits;
   digits-number = digits-number;
   digits-halves = digits-halves;
+  number-halves = number-halves;
   same-equal = same-equal;
   equal-same = equal-same;
   all-each = all-each;
