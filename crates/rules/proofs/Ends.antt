@@ -3,19 +3,19 @@ use Prim.Native.Nat.{ℕ, _+_, _^_, _≤_, _<_}
 use mathlib.Core.Bool.{Bool, true, false, _&&_}
 use mathlib.Core.List.{[], _∷_, _++_, append-nil, map}
 use mathlib.Core.Option.{Option, none, some}
-use mathlib.Core.Path.{_≡_, refl, sym, ap, ap₂, _∙_, subst}
+use mathlib.Core.Path.{_≡_, refl, sym, ap, _∙_, subst}
 use native.Mathlib.Omega.{arith}
 use lib.Dec.{leb, ltb}
 use lib.ListN.{length, length-append}
 use borrow.Author.Tests.{le-leb, leb-true, lt-ltb, ltb-true, not-true}
 use Rattle.octets.specs.Search.{all}
-use Rattle.octets.proofs.Search.{all-each, and-left, and-right, and-true, eqb-turned}
+use Rattle.octets.proofs.Search.{all-each, and-left, and-right, and-true}
 use Rattle.octets.proofs.Sublists.{all-last, any-map, distinct-last, distinct-map}
 use Rattle.address.specs.Address.{addressIn, sameAddress, stands}
 use Rattle.address.specs.declared.Address.{Address}
-use Rattle.address.specs.declared.Address.the-variants.{V4, V6}
 use Rattle.address.specs.declared.End.the-variants.{At, Never}
 use Rattle.address.specs.declared.Hold.{Hold}
+use Rattle.address.proofs.Numbers.{same-turned}
 use Rattle.addresses.specs.Laws.{addressStorable}
 use Rattle.holds.specs.Holds.{different, endAfter, endsAfter}
 use Rattle.holds.specs.Laws.{endStorable, holdStorable}
@@ -33,14 +33,6 @@ use Rattle.rules.specs.Life.{congested, chosenHold, timerHold, inPhase}
 use Rattle.rules.proofs.Moves.{children-stay, rests, room-left}
 use Rattle.rules.proofs.Phases.{chosen-storable}
 use Rattle.rules.proofs.Valid.{HoldsValid, Valid}
-
--- the test of equal addresses goes both ways
-address-turned : (a b : Address) → sameAddress a b ≡ sameAddress b a
-unfolding sameAddress
-address-turned (V4 x) (V4 y) = eqb-turned x y
-address-turned (V4 x) (V6 h l) = refl
-address-turned (V6 h l) (V4 y) = refl
-address-turned (V6 h l) (V6 i m) = ap₂ (λ (s t : Bool). s && t) (eqb-turned h i) (eqb-turned l m)
 
 -- a timer of 1 second to 31 times 320 hours, without end, or none
 timerFits : Timer → Bool
@@ -88,7 +80,7 @@ module _ (x : Line) (v : Valid x) (calm : isIn Stage.live (x .phase) ≡ false) 
     unfolding different stands addressIn
     more-different =
         distinct-map addressIn sameAddress (x .holds ++ h ∷ [])
-        ∙ distinct-last (λ g k. sameAddress (addressIn g) (addressIn k)) (λ g k. address-turned (addressIn g) (addressIn k)) (x .holds) h
+        ∙ distinct-last (λ g k. sameAddress (addressIn g) (addressIn k)) (λ g k. same-turned (addressIn g) (addressIn k)) (x .holds) h
         (sym (any-map addressIn (sameAddress (h .address)) (x .holds)) ∙ own-free) (sym (distinct-map addressIn sameAddress (x .holds)) ∙ v .holds-valid .differ)
 
     one-hold : endsAfter (x .time) h ≡ true → holdStorable h ≡ true → HoldsValid (x .time) Idle (x .holds ++ h ∷ [])

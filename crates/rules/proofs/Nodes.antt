@@ -1,33 +1,32 @@
 -- The `node` address of a configuration text fits its octets.
-use Prim.Native.Nat.{ℕ, _^_, _<_}
+use Prim.Native.Nat.{ℕ, _*_, _^_, _<_}
 use mathlib.Core.Bool.{Bool, true, false, cond, _&&_}
 use mathlib.Core.List.{List, [], _∷_, map}
 use mathlib.Core.Option.{Option, none, some}
-use mathlib.Core.Path.{_≡_, refl, sym, _∙_, subst}
-use native.Mathlib.Omega.{arith}
-use lib.Dec.{ltb, eqb}
-use lib.ListN.{length, length-map}
-use borrow.Author.Tests.{eqb-true, lt-ltb}
-use Rattle.octets.specs.Digits.{number}
-use Rattle.octets.specs.Part.{part, same}
+use mathlib.Core.Path.{_≡_, refl, ap, _∙_, subst}
+use lib.Dec.{eqb}
+use lib.ListN.{length}
+use borrow.Author.Tests.{eqb-true}
+use Rattle.octets.specs.Part.{same}
 use Rattle.octets.specs.Search.{allOf}
-use Rattle.octets.proofs.Digits.{number-below}
-use Rattle.octets.proofs.Parts.{length-part}
+use Rattle.octets.proofs.Digits.{digit-pairs}
 use Rattle.octets.proofs.Search.{and-left, and-right, and-true, cond-passes}
+use Rattle.address.specs.Address.{widthOf}
 use Rattle.addresses.specs.Laws.{addressStorable}
+use Rattle.addresses.proofs.RoundTrip.{number-storable}
 use Rattle.config.specs.Lines.{entries, entriesFrom, lastEntry}
 use Rattle.config.specs.Settings.{Settings, accepted, afterNode, asHome, asListed, asNode, configOf, firstNode, fromHome, isEnd, namePlace, nodeOr, plmnIn, rest, section, settle, withHome}
 use Rattle.config.specs.declared.Node.{Node}
 use Rattle.config.specs.declared.Node.the-variants as Node
 use Rattle.config.specs.declared.list.Kind.the-variants as Kind
-use Rattle.entry.specs.Entry.{barEntry, entryOf, four, homeEntry, lineEntry, nameEntry, nodeEntry, plmnEntry, three, v4Entry, v4From, v6Entry, v6From}
+use Rattle.entry.specs.Entry.{barEntry, entryOf, four, homeEntry, lineEntry, nameEntry, nodeEntry, plmnEntry, three, v4Entry, v4From, v6Entry, v6From, addressEntry, versionEntry}
 use Rattle.entry.specs.Field.{isName, plmnOf, priorityOf}
 use Rattle.entry.specs.Pieces.{pieces}
 use Rattle.entry.specs.declared.Entry.{Entry}
 use Rattle.entry.specs.declared.Entry.the-variants as Entry
 use Rattle.network.specs.declared.Plmn.{Plmn}
-use Rattle.text.specs.Text.{digit, isDigit, readDigits, text}
-use Rattle.text.proofs.Texts.{allOf-digits}
+use Rattle.text.specs.Text.{readDigits, text}
+use Rattle.text.proofs.Texts.{read-below}
 
 -- an address that stands in an entry, in `node` or in the settings fits its octets
 unfoldable pub entryStorable : Entry → Bool
@@ -47,63 +46,29 @@ unfoldable pub settingsStorable : Option Settings → Bool
 settingsStorable none = true
 settingsStorable (some s) = nodeStorable (s .node)
 
--- a number that is read is below a bound
-readBelow : ℕ → Option ℕ → Bool
-readBelow b none = true
-readBelow b (some x) = ltb x b
+-- two digits an octet say a number of the version's width
+address-entry : (version : ℕ) (l : List ℕ) (o : Option ℕ) → length l ≡ 2 * widthOf version → readDigits 16 l ≡ o → entryStorable (addressEntry version o) ≡ true
+unfolding addressEntry entryStorable
+address-entry version l none size e = refl
+address-entry version l (some x) size e =
+    number-storable version x (subst (λ (p : ℕ). x < p) (ap (λ (n : ℕ). 16 ^ n) size ∙ digit-pairs 16 (widthOf version)) (read-below 16 x l e))
 
--- n digits are read as a number of n digits
-read-below : (l : List ℕ) (n : ℕ) → length l ≡ n → readBelow (16 ^ n) (readDigits 16 l) ≡ true
-unfolding readBelow readDigits
-read-below l n size = go (allOf (isDigit 16) l) refl
+version-entry : (version : ℕ) (l : List ℕ) → entryStorable (versionEntry version l) ≡ true
+unfolding versionEntry entryStorable
+version-entry version l = go (eqb (length l) (2 * widthOf version)) refl
   where
-    go : (t : Bool) → allOf (isDigit 16) l ≡ t → readBelow (16 ^ n) (cond t (some (number 16 (map digit l))) none) ≡ true
-    go true e =
-        lt-ltb (number 16 (map digit l)) (16 ^ n)
-        (subst (λ (k : ℕ). number 16 (map digit l) < 16 ^ k) (length-map l digit ∙ size) (number-below 16 (map digit l) (sym (allOf-digits 16 l) ∙ e)))
-    go false e = refl
-
--- version 4 has 8 digits
-v4-storable : (o : Option ℕ) → readBelow (2 ^ 32) o ≡ true → entryStorable (v4From o) ≡ true
-unfolding readBelow v4From entryStorable addressStorable
-v4-storable none h = refl
-v4-storable (some x) h = h
-
-v4-entry : (l : List ℕ) → entryStorable (v4Entry l) ≡ true
-unfolding v4Entry entryStorable
-v4-entry l = go (eqb (length l) 8) refl
-  where
-    go : (t : Bool) → eqb (length l) 8 ≡ t → entryStorable (cond t (v4From (readDigits 16 l)) Entry.Bad) ≡ true
-    go true e = v4-storable (readDigits 16 l) (read-below l 8 (eqb-true (length l) 8 e))
-    go false e = refl
-
--- version 6 has 16 digits in each half
-v6-storable : (o r : Option ℕ) → readBelow (2 ^ 64) o ≡ true → readBelow (2 ^ 64) r ≡ true → entryStorable (v6From o r) ≡ true
-unfolding readBelow v6From entryStorable addressStorable
-v6-storable none r h k = refl
-v6-storable (some x) none h k = refl
-v6-storable (some x) (some y) h k = and-true (ltb x (2 ^ 64)) (ltb y (2 ^ 64)) h k
-
-v6-entry : (l : List ℕ) → entryStorable (v6Entry l) ≡ true
-unfolding v6Entry entryStorable
-v6-entry l = go (eqb (length l) 32) refl
-  where
-    go : (t : Bool) → eqb (length l) 32 ≡ t → entryStorable (cond t (v6From (readDigits 16 (part l 0 16)) (readDigits 16 (part l 16 16))) Entry.Bad) ≡ true
-    go true e =
-        let size : length l ≡ 32 = eqb-true (length l) 32 e in
-        let high = read-below (part l 0 16) 16 (length-part l 0 16 (omega arith)) in
-        let low = read-below (part l 16 16) 16 (length-part l 16 16 (omega arith)) in
-        v6-storable (readDigits 16 (part l 0 16)) (readDigits 16 (part l 16 16)) high low
+    go : (t : Bool) → eqb (length l) (2 * widthOf version) ≡ t → entryStorable (cond t (addressEntry version (readDigits 16 l)) Entry.Bad) ≡ true
+    go true e = address-entry version l (readDigits 16 l) (eqb-true (length l) (2 * widthOf version) e) refl
     go false e = refl
 
 -- `node` goes on with a name or with an address that fits
 node-entry : (kind l : List ℕ) → entryStorable (nodeEntry kind l) ≡ true
 unfolding nodeEntry nameEntry entryStorable
 node-entry kind l =
-    let six = cond (same kind (text "v6")) (v6Entry l) Entry.Bad in
-    let four = cond (same kind (text "v4")) (v4Entry l) six in
-    let six-storable = cond-passes entryStorable (same kind (text "v6")) (v6Entry l) Entry.Bad (v6-entry l) refl in
-    let four-storable = cond-passes entryStorable (same kind (text "v4")) (v4Entry l) six (v4-entry l) six-storable in
+    let six = cond (same kind (text "v6")) (versionEntry 6 l) Entry.Bad in
+    let four = cond (same kind (text "v4")) (versionEntry 4 l) six in
+    let six-storable = cond-passes entryStorable (same kind (text "v6")) (versionEntry 6 l) Entry.Bad (version-entry 6 l) refl in
+    let four-storable = cond-passes entryStorable (same kind (text "v4")) (versionEntry 4 l) six (version-entry 4 l) six-storable in
     let name-storable = cond-passes entryStorable (isName l) (Entry.Name (length l)) Entry.Bad refl refl in
     cond-passes entryStorable (same kind (text "name")) (nameEntry l) four name-storable four-storable
 

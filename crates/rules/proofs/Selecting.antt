@@ -1,6 +1,6 @@
 -- Choosing a gateway: what start, the country answer and the address answer come to.
 use Prim.Native.Nat.{ℕ, suc, _*_, _/_}
-use mathlib.Core.Bool.{Bool, true, false, cond, not, _&&_, _||_}
+use mathlib.Core.Bool.{Bool, true, false, cond, not, _&&_}
 use mathlib.Core.List.{List, [], _∷_}
 use mathlib.Core.Option.{Option, none, some}
 use mathlib.Core.Path.{_≡_, refl, ap, _∙_}
@@ -13,7 +13,7 @@ use Rattle.octets.specs.Row.{place}
 use Rattle.octets.specs.Search.{allOf}
 use Rattle.octets.proofs.Rows.{row-passes}
 use Rattle.octets.proofs.Search.{and-left, and-right, and-true, cond-passes}
-use Rattle.address.specs.Address.{permitted, stands, versionOf, heldAddresses}
+use Rattle.address.specs.Address.{heldAddresses, isVersion, permitted, stands, versionOf}
 use Rattle.address.specs.declared.Address.{Address}
 use Rattle.addresses.specs.Laws.{addressStorable}
 use Rattle.addresses.proofs.RoundTrip as Addresses
@@ -102,7 +102,7 @@ known (Abroad mcc) = placeFits (Abroad mcc)
 record Ranged (f : Facts) : Type 0 where
   place-known : known (f .place) ≡ true
   registered-fits : registeredFits (f .registered) ≡ true
-  version-fits : eqb (f .version) 4 || eqb (f .version) 6 ≡ true
+  version-fits : isVersion (f .version) ≡ true
 
 -- the numbers of a start that aren't refused by 8
 given-ranged : (g : StartNumbers) → startNumbersFit g ≡ true → Ranged (factsOf g)

@@ -4,6 +4,7 @@ use mathlib.Core.Bool.{Bool, cond, _&&_, _||_}
 use mathlib.Core.List.{List, [], _++_}
 use lib.Dec.{leb, eqb}
 use Rattle.network.specs.Plmn.{mostCode}
+use Rattle.address.specs.Address.{isVersion}
 use Rattle.network.specs.declared.MaybePlmn.{MaybePlmn}
 use Rattle.network.specs.declared.MaybePlmn.the-variants.{Is, None}
 use Rattle.place.specs.declared.Facts.{Facts}
@@ -114,7 +115,7 @@ startNumbersFit g =
     leb (g .place) 2 && leb (g .mcc) mostCode && (eqb (g .place) 2 || eqb (g .mcc) 0)
     && leb (g .registered) 1 && leb (g .registeredMcc) mostCode && leb (g .registeredMnc) mostCode
     && (eqb (g .registered) 1 || eqb (g .registeredMcc) 0 && eqb (g .registeredMnc) 0)
-    && (eqb (g .version) 4 || eqb (g .version) 6)
+    && isVersion (g .version)
 
 -- the facts that a start's numbers say
 unfoldable pub placeOf : ℕ → ℕ → Place

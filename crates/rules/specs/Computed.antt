@@ -71,10 +71,10 @@ unfolding empty slotsOn
     Packet.isExpanded Packet.isMessage Packet.fits Packet.isNas Packet.isParameters Packet.isNasRequest Packet.nasPlace
     Packet.isNasResponse Packet.readPacket Packet.nasOf
     Response.header Response.block Response.response
-    Address.versionOf Address.sameAddress Address.stands Address.addressIn Address.permitted
+    Address.isVersion Address.versionOf Address.widthOf Address.numberOf Address.addressOf Address.sameAddress Address.stands Address.addressIn Address.permitted
     Pieces.before Pieces.pieces
     Field.plmnFrom Field.plmnOf Field.plain Field.priorityOf Field.isNameCharacter Field.isName
-    Entry.homeEntry Entry.barEntry Entry.plmnEntry Entry.beforeName Entry.nameEntry Entry.v4From Entry.v4Entry Entry.v6From Entry.v6Entry Entry.nodeEntry
+    Entry.homeEntry Entry.barEntry Entry.plmnEntry Entry.beforeName Entry.nameEntry Entry.addressEntry Entry.versionEntry Entry.nodeEntry
     Entry.three Entry.four Entry.entryOf Entry.lineEntry
     Lines.lastEntry Lines.entries Lines.entriesFrom Lines.lineEnd
     Settings.plmnIn Settings.accepted Settings.asHome Settings.asNode Settings.asListed Settings.taken Settings.section

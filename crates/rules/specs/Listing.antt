@@ -1,12 +1,12 @@
 -- The listing of one tenant: open lines by rising number, each with its children in the order made (document 01, 'Listing of one tenant').
-use Prim.Native.Nat.{ℕ, suc}
+use Prim.Native.Nat.{ℕ, suc, _*_}
 use Prim.Native.String.{String}
 use mathlib.Core.List.{List, [], _∷_, _++_}
 use mathlib.Core.Option.{Option, none, some}
 use lib.ListN.{length}
 use Rattle.octets.specs.Row.{joined}
+use Rattle.address.specs.Address.{numberOf, versionOf, widthOf}
 use Rattle.address.specs.declared.Address.{Address}
-use Rattle.address.specs.declared.Address.the-variants.{V4, V6}
 use Rattle.children.specs.declared.Child.{Child}
 use Rattle.phase.specs.Stage.{Stage, stageOf}
 use Rattle.phase.specs.Stage as Stage
@@ -36,8 +36,7 @@ word Stage.live = "live"
 -- the chosen address in hex, 8 or 32 lower-case digits, or a hyphen
 unfoldable pub addressText : Option Address → List ℕ
 addressText none = text "-"
-addressText (some (V4 x)) = digitText 16 8 x
-addressText (some (V6 h l)) = digitText 16 16 h ++ digitText 16 16 l
+addressText (some a) = digitText 16 (2 * widthOf (versionOf a)) (numberOf a)
 
 -- a child record has its line, the SPI as 8 hex digits, the session in decimal
 unfoldable pub childText : ℕ → Child → List ℕ
