@@ -38,6 +38,7 @@ beforeName = length (text "node") + 1 + length (text "name") + 1
 unfoldable pub nameEntry : List ℕ → Entry
 nameEntry l = cond (isName l) (Name (length l)) Bad
 
+-- a node address is the number that its digits say
 unfoldable pub addressEntry : ℕ → Option ℕ → Entry
 addressEntry version none = Bad
 addressEntry version (some x) = Node (addressOf version x)
