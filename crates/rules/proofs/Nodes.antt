@@ -19,7 +19,7 @@ use Rattle.config.specs.Settings.{Settings, accepted, afterNode, asHome, asList
 use Rattle.config.specs.declared.Node.{Node}
 use Rattle.config.specs.declared.Node.the-variants as Node
 use Rattle.config.specs.declared.list.Kind.the-variants as Kind
-use Rattle.entry.specs.Entry.{barEntry, entryOf, four, homeEntry, lineEntry, nameEntry, nodeEntry, plmnEntry, three, v4Entry, v4From, v6Entry, v6From, addressEntry, versionEntry}
+use Rattle.entry.specs.Entry.{barEntry, entryOf, four, homeEntry, lineEntry, nameEntry, nodeEntry, plmnEntry, three, addressEntry, versionEntry}
 use Rattle.entry.specs.Field.{isName, plmnOf, priorityOf}
 use Rattle.entry.specs.Pieces.{pieces}
 use Rattle.entry.specs.declared.Entry.{Entry}
