@@ -1,15 +1,15 @@
 -- A line gets live only by a good final answer while it is sure, and sure only by a Success with the identifier of the last reply.
 use Prim.Native.Nat.{ℕ, _≤_}
 use mathlib.Core.Bool.{Bool, true, false, cond, false≢true}
-use mathlib.Core.List.{List, []}
+use mathlib.Core.List.{List}
 use mathlib.Core.Option.{Option, none, some}
 use mathlib.Core.Path.{_≡_, refl, sym, ap, _∙_, subst}
 use native.Mathlib.Omega.{arith}
 use lib.Dec.{eqb, ltb}
-use lib.ListN.{getD}
 use borrow.Author.Tests.{eqb-true, lt-ltb}
 use Rattle.octets.specs.Part.{same}
-use Rattle.octets.specs.Refusal.{refusal}
+use Rattle.rules.proofs.Rows.{Passes}
+use Rattle.rules.specs.View.{fresh, viewIn}
 use Rattle.octets.specs.Row.{isSome}
 use Rattle.octets.proofs.Search.{either}
 use Rattle.address.specs.declared.Address.{Address}
@@ -27,25 +27,23 @@ use Rattle.record.specs.Line.{Line}
 use Rattle.record.specs.Sound.{chosen}
 use Rattle.selection.specs.Selection as Selection
 use Rattle.table.specs.Slots.{lineAt, pairIn, slotLine, slotsOf}
-use Rattle.table.specs.Table.{isTable, recordOf}
+use Rattle.table.specs.Table.{recordOf}
 use Rattle.table.proofs.Lookups.{open-line}
 use Rattle.table.proofs.Views.{open-found}
-use Rattle.text.specs.Text.{text}
 use Rattle.rules.specs.After.{LiveBy, was-live, auth-good, SureBy, was-sure, success}
-use Rattle.rules.specs.Call.{Event, start, country, address, begin, init, eap, reply, final, error, congestion, give-up, child-made, child-deleted, ike-delete, Call, opening, closing, listing, timed, factsOf, pairOf, tenantOf}
+use Rattle.rules.specs.Call.{Event, start, country, address, begin, init, eap, reply, final, error, congestion, give-up, child-made, child-deleted, ike-delete, Call, opening, closing, listing, timed, factsOf, pairOf, lastTime}
 use Rattle.rules.specs.Claims.{Good, Timed, lineIn}
 use Rattle.rules.specs.Histories.{isOctets}
 use Rattle.rules.specs.Life.{becomes, congested, current, finished, goes, inPhase, keeps, onward, outcome, packetTaken, withChildren}
 use Rattle.rules.specs.Phases.{factsIn, lastReply, owed, turnIn}
-use Rattle.rules.specs.Refusals.{isDue, isNumber, refusalsOf}
-use Rattle.rules.specs.Run.{Result, fresh, run, step, stepOf, timedStep, viewOf}
+use Rattle.rules.specs.Refusals.{isDue, isNumber, isAllowed}
+use Rattle.rules.specs.Run.{Result, run, step, stepOf, timedStep}
 use Rattle.rules.proofs.Accepted.{line-range, ready, timed-pair}
 use Rattle.rules.proofs.Acts.{act-line, lineAfter}
 use Rattle.rules.proofs.Goes.{Early, addressed-goes, answered-goes, idle-early, onward-early, replied-goes, started-goes}
-use Rattle.rules.proofs.Keeps.{allowed-by, allowed-then}
-use Rattle.rules.proofs.Refused.{given-is}
+use Rattle.rules.proofs.Refused.{given-is, no-row}
 use Rattle.rules.proofs.Runs.{accepted, number, table-left}
-use Rattle.rules.proofs.Timed.{no-ground, timed-run}
+use Rattle.rules.proofs.Timed.{event-passes, timed-run}
 
 -- the phase that an event leads to
 data Leads (e : Event) (p : Phase) : Phase → Type 0 where
@@ -104,18 +102,18 @@ is-number i none h = absurd (false≢true h)
 is-number i (some m) h = ap some (sym (eqb-true i m h))
 
 -- an event that isn't refused
-module _ (tenant line time : ℕ) (e : Event) (out : Bool) (x : Line) (free : refusal (refusalsOf e out (current time x)) ≡ 0) where
+module _ (tenant line time : ℕ) (e : Event) (out : Bool) (x : Line) (free : Passes e out (current time x)) where
   abbrev c : Call
   c = timed tenant line time e
 
   sure-before : e ≡ final 1 → isIn Stage.sure (x .phase) ≡ true
-  unfolding refusalsOf current
-  sure-before q = allowed-by _ _ [] (subst (λ (d : Event). refusal (refusalsOf d out (current time x)) ≡ 0) q free)
+  unfolding isAllowed current
+  sure-before q = subst (λ (d : Event). isAllowed d (current time x) ≡ true) q (free .allowed)
 
   reply-before : (packet : List ℕ) (i : ℕ) → e ≡ eap packet → readPacket packet ≡ Success i → lastReply (turnIn (x .phase)) ≡ some i
-  unfolding refusalsOf current isDue
+  unfolding isAllowed current isDue
   reply-before packet i q r =
-      let due : isDue (readPacket packet) (x .phase) ≡ true = allowed-then _ _ _ [] (subst (λ (d : Event). refusal (refusalsOf d out (current time x)) ≡ 0) q free) in
+      let due : isDue (readPacket packet) (x .phase) ≡ true = subst (λ (d : Event). isAllowed d (current time x) ≡ true) q (free .allowed) in
       is-number i (lastReply (turnIn (x .phase))) (subst (λ (p : Packet). isDue p (x .phase) ≡ true) r due)
 
   live-by : {p : Phase} → Leads e (x .phase) p → isIn Stage.live p ≡ true → LiveBy c tenant line (some x)
@@ -154,10 +152,7 @@ module _ (tenant line time : ℕ) (e : Event) (l : List ℕ) (octets : isOctets 
   d = timed tenant line time e
 
   in-range : line ≤ 3
-  unfolding stepOf step tenantOf
-  in-range =
-      let v = viewOf (isTable l) tenant (slotsOf l) in
-      line-range tenant line (timed-pair tenant line time e v (getD (v .lines) line none) n)
+  in-range = line-range tenant line (timed-pair tenant line time e (viewIn d l) (no-row d (viewIn d l) n))
 
   abbrev p : ℕ
   p = pairOf tenant line
@@ -212,7 +207,7 @@ module _ (l : List ℕ) (good : Good l) (tenant line : ℕ) (small : line ≤ 3)
   -- a test of phases that an idle line doesn't pass, and what is known of a line that passes it
   module _ (test : Phase → Bool) (By : Call → Option Line → Type 0) (rested : test Idle ≡ false)
       (stood : (c : Call) (x : Line) → test (x .phase) ≡ true → By c (some x))
-      (passed : (time : ℕ) (e : Event) (x : Line) → refusal (refusalsOf e (ltb 4294967295 time) (current time x)) ≡ 0
+      (passed : (time : ℕ) (e : Event) (x : Line) → Passes e (ltb lastTime time) (current time x)
       → test (outcome e (current time x) .line .phase) ≡ true → By (timed tenant line time e) (some x)) where
     known : (c : Call) → Came c l tenant line y → test (y .phase) ≡ true → By c (lineIn l tenant line)
     unfolding fresh
@@ -220,7 +215,7 @@ module _ (l : List ℕ) (good : Good l) (tenant line : ℕ) (small : line ≤ 3)
     known c (opened e) h = absurd (false≢true (sym rested ∙ ap (λ (z : Line). test (z .phase)) (sym e) ∙ h))
     known c (happened time e x same t after) h =
         subst (λ (d : Call). By d (lineIn l tenant line)) (sym same)
-        (subst (By (timed tenant line time e)) (sym (t .stands)) (passed time e x (no-ground tenant line time e l x t) (sym (ap (λ (z : Line). test (z .phase)) after) ∙ h)))
+        (subst (By (timed tenant line time e)) (sym (t .stands)) (passed time e x (event-passes tenant line time e l x t) (sym (ap (λ (z : Line). test (z .phase)) after) ∙ h)))
 
 module _ (c : Call) (l : List ℕ) (tenant line : ℕ) (y : Line) (octets : isOctets c ≡ true) (good : Good l) (small : line ≤ 3)
     (h : lineIn (run c l .table) tenant line ≡ some y) where
@@ -231,10 +226,10 @@ module _ (c : Call) (l : List ℕ) (tenant line : ℕ) (y : Line) (octets : isOc
   unfolding current
   live-authenticated =
       known l good tenant line small y (isIn Stage.live) (λ d o. LiveBy d tenant line o) (idle-early .not-live) (λ d x. was-live x)
-      (λ time e x free. live-by tenant line time e (ltb 4294967295 time) x free (leads (current time x) e)) c came-by
+      (λ time e x free. live-by tenant line time e (ltb lastTime time) x free (leads (current time x) e)) c came-by
 
   pub sure-succeeded : isIn Stage.sure (y .phase) ≡ true → SureBy c tenant line (lineIn l tenant line)
   unfolding current
   sure-succeeded =
       known l good tenant line small y (isIn Stage.sure) (λ d o. SureBy d tenant line o) (idle-early .not-sure) (λ d x. was-sure x)
-      (λ time e x free. sure-by tenant line time e (ltb 4294967295 time) x free (leads (current time x) e)) c came-by
+      (λ time e x free. sure-by tenant line time e (ltb lastTime time) x free (leads (current time x) e)) c came-by

@@ -1,15 +1,15 @@
 -- A line gets other children.
-use Prim.Native.Nat.{ℕ, _^_}
+use Prim.Native.Nat.{ℕ}
 use mathlib.Core.Bool.{true, false}
 use mathlib.Core.List.{List, [], _∷_, _++_}
-use mathlib.Core.Path.{_≡_, refl, sym, _∙_}
+use mathlib.Core.Path.{_≡_, refl}
 use native.Mathlib.Omega.{arith}
-use lib.Dec.{leb, ltb}
+use lib.Dec.{leb}
 use lib.ListN.{length, length-append}
-use borrow.Author.Tests.{le-leb, leb-false, lt-ltb, ltb-false}
+use borrow.Author.Tests.{le-leb, leb-false}
 use Rattle.octets.specs.Row.{only}
 use Rattle.octets.specs.Search.{allOf, distinct}
-use Rattle.octets.proofs.Search.{eqb-turned, or-left, or-right, smaller}
+use Rattle.octets.proofs.Search.{and-left, and-right, eqb-turned, smaller}
 use Rattle.octets.proofs.Sublists.{all-last, distinct-last, only-all, only-distinct, only-length}
 use Rattle.children.specs.Children.{childFits, hasSpi, isSpi, sameSpi, spisDiffer}
 use Rattle.children.specs.Laws.{childStorable}
@@ -23,7 +23,7 @@ use Rattle.phase.specs.declared.Phase.the-variants.{Idle}
 use Rattle.record.specs.Line.{Line}
 use Rattle.record.specs.Sound.{chosen, chosenFree}
 use Rattle.rules.specs.Life.{inPhase, isOther, withChildren}
-use Rattle.rules.specs.Refusals.{badChild}
+use Rattle.rules.specs.Refusals.{isChild}
 use Rattle.rules.proofs.Valid.{ChildrenValid, Valid}
 
 -- the test of equal SPIs goes both ways
@@ -32,24 +32,17 @@ unfolding sameSpi isSpi
 spi-turned c d = eqb-turned (c .spi) (d .spi)
 
 -- a child whose numbers are in their ranges
-module _ (spi session : ℕ) (good : badChild spi session ≡ false) where
+module _ (spi session : ℕ) (good : isChild (record { spi = spi; session = session }) ≡ true) where
   abbrev child : Child
   child = record { spi = spi; session = session }
 
   child-fits : childFits child ≡ true
-  unfolding badChild childFits
-  child-fits =
-      let low : ltb spi 256 ≡ false = search (or-left, or-right) in
-      let some : ltb session 1 ≡ false = search (or-left, or-right) in
-      let most : ltb 15 session ≡ false = search (or-left, or-right) in
-      rw (le-leb 256 spi (ltb-false spi 256 low), le-leb 1 session (ltb-false session 1 some), le-leb session 15 (ltb-false 15 session most))
+  unfolding isChild
+  child-fits = and-left (childFits child) (childStorable child) good
 
   child-storable : childStorable child ≡ true
-  unfolding badChild childStorable
-  child-storable =
-      let high : ltb 4294967295 spi ≡ false = search (or-left, or-right) in
-      let most : ltb 15 session ≡ false = search (or-left, or-right) in
-      rw (lt-ltb spi (256 ^ 4) (omega (arith, ltb-false 4294967295 spi high)), lt-ltb session 256 (omega (arith, ltb-false 15 session most)))
+  unfolding isChild
+  child-storable = and-right (childFits child) (childStorable child) good
 
   -- one child more on a live line
   module _ (p : Phase) (cs : List Child) (c : ChildrenValid p cs) where
@@ -82,7 +75,7 @@ module _ (x : Line) (v : Valid x) where
   unfolding withChildren
   with-children cs c = record { small = v .small; phase-valid = v .phase-valid; children-valid = c; holds-valid = v .holds-valid }
 
-  pub child-made-valid : (spi session : ℕ) → badChild spi session ≡ false → isIn Stage.live (x .phase) ≡ true → hasSpi spi (x .children) ≡ false
+  pub child-made-valid : (spi session : ℕ) → isChild (record { spi = spi; session = session }) ≡ true → isIn Stage.live (x .phase) ≡ true → hasSpi spi (x .children) ≡ false
       → leb 8 (length (x .children)) ≡ false → Valid (withChildren x (x .children ++ record { spi = spi; session = session } ∷ []))
   child-made-valid spi session good on new room =
       with-children (x .children ++ record { spi = spi; session = session } ∷ [])

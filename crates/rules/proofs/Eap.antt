@@ -32,7 +32,6 @@ use Rattle.phase.specs.declared.Turn.{Turn}
 use Rattle.phase.specs.declared.Turn.the-variants.{First, Owed, Answered}
 use Rattle.record.specs.Line.{Line}
 use Rattle.record.specs.Sound.{chosen}
-use Rattle.text.specs.Text.{text}
 use Rattle.rules.specs.Life.{goes, keeps, packetTaken, replied}
 use Rattle.rules.specs.Phases.{lastReply, owed, turnIn}
 use Rattle.rules.specs.Refusals.{isDue, isNumber}

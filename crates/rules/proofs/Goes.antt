@@ -4,7 +4,6 @@ use mathlib.Core.Bool.{false}
 use mathlib.Core.List.{List, [], _∷_}
 use mathlib.Core.Option.{Option, none, some}
 use mathlib.Core.Path.{_≡_, refl}
-use Rattle.octets.specs.Part.{same}
 use Rattle.address.specs.Address.{heldAddresses}
 use Rattle.address.specs.declared.Address.{Address}
 use Rattle.config.specs.Settings.{Settings}
@@ -23,7 +22,6 @@ use Rattle.record.specs.Sound.{chosen}
 use Rattle.selection.specs.Selection as Selection
 use Rattle.selection.specs.declared.Choice.{Choice}
 use Rattle.selection.specs.declared.Choice.the-variants as Choice
-use Rattle.text.specs.Text.{text}
 use Rattle.rules.specs.Life.{Outcome, addressAnswered, countryAnswered, decided, gatewayFound, goes, inPhase, nameAsked, onward, replied, started}
 
 -- a phase that is neither sure nor live

@@ -2,10 +2,8 @@
 use Prim.Native.Nat.{ℕ, zero, suc, _≤_}
 use mathlib.Core.Bool.{Bool, true, false, _||_, false≢true, true≢false}
 use mathlib.Core.List.{List, [], _∷_}
-use mathlib.Core.Option.{Option, none}
 use mathlib.Core.Path.{_≡_, refl, sym, ap, ap₂, _∙_, subst}
 use native.Mathlib.Omega.{arith}
-use lib.ListN.{getD}
 use borrow.Author.Tests.{eqb-true, eqb-false, eq-eqb, ne-eqb, lt-ltb}
 use Rattle.octets.specs.Part.{zeros}
 use Rattle.octets.specs.Refusal.{refusal}
@@ -14,20 +12,23 @@ use Rattle.octets.specs.Search.{allOf}
 use Rattle.octets.proofs.Octets.{zeros-octets}
 use Rattle.octets.proofs.Search.{and-left, and-right, either}
 use Rattle.record.specs.Line.{Line}
-use Rattle.table.specs.Slots.{Used, isOpen, lineAt, pairIn, slotLine, slotsOf}
-use Rattle.table.specs.Table.{isTable, recordOf, tableLength}
+use Rattle.table.specs.Slots.{isOpen, lineAt, pairIn, slotLine, slotsOf}
+use Rattle.table.specs.Table.{recordOf, tableLength}
 use Rattle.table.proofs.Empty.{empty-sound}
 use Rattle.table.proofs.Views.{open-found}
 use Rattle.rules.specs.Answer.{Answer}
 use Rattle.rules.specs.Call.{Event, Call, opening, closing, listing, timed, pairOf, tenantOf}
 use Rattle.rules.specs.Claims.{Alike, Good}
 use Rattle.rules.specs.Histories.{answersTo, counts, isOctets, isTenant, opensOrCloses, remaining}
-use Rattle.rules.specs.Life.{current, outcome}
-use Rattle.rules.specs.Run.{Act, replace, Result, Step, applied, lineOr, run, settled, step, stepOf, timedStep, viewOf}
+use Rattle.rules.specs.Life.{outcome}
+use Rattle.rules.specs.Refusals.{refusals}
+use Rattle.rules.specs.Run.{Act, change, Result, Step, applied, run, settled, step, stepOf, timedStep}
+use Rattle.rules.specs.View.{View, lineFound, viewIn}
 use Rattle.rules.proofs.Accepted.{line-range, ready, timed-pair}
 use Rattle.rules.proofs.Acts.{Ready, act-line, act-open, lineAfter, openAfter}
+use Rattle.rules.proofs.Refused.{no-row}
 use Rattle.rules.proofs.Runs.{accepted, number, run-sound, table-left}
-use Rattle.rules.proofs.Views.{same-closing, same-opening, same-step}
+use Rattle.rules.proofs.Views.{same-closing, same-opening, same-view}
 
 pair-low : (tenant line : ℕ) → 1 ≤ pairOf tenant line
 unfolding pairOf
@@ -83,22 +84,19 @@ unfolding pairOf
 apart a b k line h g other e = other (omega arith)
 
 -- a line that is changed in its own place: every other line stays, and the same pairs are open
-module _ (l : List ℕ) (good : Good l) (p : ℕ) (x : Line) (r : Ready l (replace p (Used p x))) (q : ℕ) (low : 1 ≤ q) where
-  abbrev change : Act
-  change = replace p (Used p x)
-
-  line-stays : (p ≡ q → ⊥) → lineAt q (slotsOf (applied change l)) ≡ lineAt q (slotsOf l)
+module _ (l : List ℕ) (good : Good l) (p : ℕ) (x : Line) (r : Ready l (change p x)) (q : ℕ) (low : 1 ≤ q) where
+  line-stays : (p ≡ q → ⊥) → lineAt q (slotsOf (applied (change p x) l)) ≡ lineAt q (slotsOf l)
   unfolding lineAfter pairIn
-  line-stays away = act-line l good change r q low ∙ rw (ne-eqb p q away)
+  line-stays away = act-line l good (change p x) r q low ∙ rw (ne-eqb p q away)
 
-  open-stays : isOpen q (slotsOf (applied change l)) ≡ isOpen q (slotsOf l)
+  open-stays : isOpen q (slotsOf (applied (change p x) l)) ≡ isOpen q (slotsOf l)
   unfolding openAfter pairIn slotLine isSome
-  open-stays = act-open l good change r q low ∙ either p q here there
+  open-stays = act-open l good (change p x) r q low ∙ either p q here there
     where
-      here : p ≡ q → openAfter change q (isOpen q (slotsOf l)) ≡ isOpen q (slotsOf l)
+      here : p ≡ q → openAfter (change p x) q (isOpen q (slotsOf l)) ≡ isOpen q (slotsOf l)
       here e = rw (eq-eqb p q e) (sym (ap (λ (k : ℕ). isOpen k (slotsOf l)) (sym e) ∙ open-found l p ∙ lt-ltb (recordOf l p) 32 (r .0)))
 
-      there : (p ≡ q → ⊥) → openAfter change q (isOpen q (slotsOf l)) ≡ isOpen q (slotsOf l)
+      there : (p ≡ q → ⊥) → openAfter (change p x) q (isOpen q (slotsOf l)) ≡ isOpen q (slotsOf l)
       there away = rw (ne-eqb p q away)
 
 -- a call of another tenant that is neither open nor close leaves the table alike
@@ -110,20 +108,17 @@ module _ (a : ℕ) (l m : List ℕ) (alike : Alike a l m) where
     abbrev c : Call
     c = timed tenant line time e
 
-    -- the call's own line, as it finds it
-    abbrev mine : Option Line
-    mine = getD (viewOf (isTable l) tenant (slotsOf l) .lines) line none
-
+    -- the call's own line afterwards
     abbrev after : Line
-    after = outcome e (current time (lineOr mine)) .line
+    after = outcome e (lineFound line time (viewIn c l)) .line
 
     taken : number c l ≡ 0 → Alike a (run c l .table) m
-    unfolding stepOf step tenantOf timedStep
+    unfolding stepOf step timedStep
     taken n =
         let good = alike .left in
         let p = pairOf tenant line in
         let r = ready c l octets good n in
-        let in-range = line-range tenant line (timed-pair tenant line time e (viewOf (isTable l) tenant (slotsOf l)) mine n) in
+        let in-range = line-range tenant line (timed-pair tenant line time e (viewIn c l) (no-row c (viewIn c l) n)) in
         record {
           left = run-sound c l octets good;
           right = alike .right;
@@ -152,9 +147,10 @@ module _ (a : ℕ) (l m : List ℕ) (alike : Alike a l m) where
 
   -- a call of the tenant, or anybody's open or close, keeps two tables alike
   own-alike : (c : Call) → isOctets c ≡ true → tenantOf c ≡ a → Alike a (run c l .table) (run c m .table)
+  unfolding stepOf
   own-alike c octets e =
-      let s = same-step a l m alike c e in
-      still-alike a l m alike c octets (ap (λ (x : Step). refusal (x .refusals)) s) (ap (λ (x : Step). x .act) s)
+      let same = same-view a l m alike c e in
+      still-alike a l m alike c octets (ap (λ (v : View). refusal (refusals c v)) same) (ap (λ (v : View). step c v .act) same)
 
   pub shared-alike : (c : Call) → isOctets c ≡ true → opensOrCloses c ≡ true → Alike a (run c l .table) (run c m .table)
   unfolding opensOrCloses
@@ -170,9 +166,9 @@ module _ (a : ℕ) (l m : List ℕ) (alike : Alike a l m) where
   same-answer (suc n) c s = refl
 
   own-answer : (c : Call) → tenantOf c ≡ a → run c l .answer ≡ run c m .answer
-  unfolding run
+  unfolding run stepOf
   own-answer c e =
-      same-answer (number c l) c (stepOf c l) ∙ ap (λ (s : Step). settled (refusal (s .refusals)) c s m .answer) (same-step a l m alike c e)
+      same-answer (number c l) c (stepOf c l) ∙ ap (λ (v : View). settled (refusal (refusals c v)) c (step c v) m .answer) (same-view a l m alike c e)
 
 is-own : (a : ℕ) (c : Call) → isTenant a c ≡ true → tenantOf c ≡ a
 unfolding isTenant

@@ -1,16 +1,15 @@
 -- Every accepted event keeps a line sound.
 use Prim.Native.Nat.{ℕ}
 use mathlib.Core.Bool.{Bool, true, false, not, _&&_}
-use mathlib.Core.List.{List, [], _∷_}
+use mathlib.Core.List.{List}
 use mathlib.Core.Path.{_≡_, refl}
 use native.Mathlib.Omega.{arith}
 use lib.Dec.{ltb, eqb}
 use lib.ListN.{length}
 use borrow.Author.Tests.{le-leb, leb-false, ltb-false, not-false}
 use Rattle.octets.specs.Laws.{below}
-use Rattle.octets.specs.Refusal.{Refusal, _when_, refusal}
+use Rattle.octets.specs.Refusal.{refusal}
 use Rattle.octets.specs.Search.{allOf}
-use Rattle.octets.proofs.Refusals.{refusal-step}
 use Rattle.octets.proofs.Search.{and-left, and-right, or-left, or-right}
 use Rattle.octets.specs.Row.{isSome}
 use Rattle.children.specs.Children.{hasSpi}
@@ -25,10 +24,10 @@ use Rattle.record.specs.Laws.{lineStorable}
 use Rattle.record.specs.Line.{Line}
 use Rattle.record.specs.Sound.{chosen, lineSound}
 use Rattle.selection.specs.Selection as Selection
-use Rattle.rules.specs.Call.{Event, StartNumbers, start, country, address, begin, init, eap, reply, final, error, congestion, give-up, child-made, child-deleted, ike-delete, eventOctets, startNumbersFit}
+use Rattle.rules.specs.Call.{Event, StartNumbers, start, country, address, begin, init, eap, reply, final, error, congestion, give-up, child-made, child-deleted, ike-delete, eventOctets, lastTime, startNumbersFit}
 use Rattle.rules.specs.Life.{becomes, current, finished, goes, keeps, outcome}
 use Rattle.rules.specs.Phases.{factsIn, owed, turnIn, underway}
-use Rattle.rules.specs.Refusals.{badChild, refusalsOf, unless}
+use Rattle.rules.specs.Refusals.{hasNoRoom, isAllowed, isChild, isHeldFull, isOutOfRange, isSpiTaken, refusalsOf}
 use Rattle.rules.proofs.Children.{child-deleted-valid, child-made-valid, deleted-valid}
 use Rattle.rules.proofs.Current.{current-valid}
 use Rattle.rules.proofs.Eap.{due-calm, packet-storable, replied-valid, taken-valid}
@@ -36,6 +35,7 @@ use Rattle.rules.proofs.Ends.{congested-valid}
 use Rattle.rules.proofs.Moves.{auth-carries, goes-on, init-carries, live-carries, rests}
 use Rattle.rules.proofs.Nodes.{config-storable}
 use Rattle.rules.proofs.Phases.{not-idle, not-live}
+use Rattle.rules.proofs.Rows.{Passes, passes}
 use Rattle.rules.proofs.Selecting.{addressed-valid, addresses-storable, answered-valid, started-valid}
 use Rattle.rules.proofs.Valid.{Valid, held-of, sound-of, valid-of}
 
@@ -61,154 +61,110 @@ module _ (p : Phase) where
   unfolding isSome owed turnIn
   calm-owed e = not-live (λ q. isSome (owed (turnIn q))) (λ a. refl) p e
 
--- an event that isn't refused is allowed in its phase
-pub allowed-by : (b a : Bool) (rs : List Refusal) → refusal ((8 when b) ∷ unless a ∷ rs) ≡ 0 → a ≡ true
-unfolding unless
-allowed-by b a rs e = not-false a (refusal-step 9 (not a) rs (refusal-step 7 b ((10 when not a) ∷ rs) e .1) .0)
+-- each event that isn't refused leaves a valid line
+module _ (out : Bool) (x : Line) (v : Valid x) where
+  keeps-start : (g : StartNumbers) (l : List ℕ) (room : ℕ) → Passes (start g l room) out x → Valid (outcome (start g l room) x .line)
+  unfolding isOutOfRange isAllowed isHeldFull outcome
+  keeps-start g l room p =
+      let fits : not (startNumbersFit g) ≡ false = search (or-left) in
+      let calm = calm-in (x .phase) Stage.idle refl (p .allowed) in
+      let few = leb-false 8 (length (x .holds)) (p .hold-room) in
+      started-valid x v calm (le-leb (length (x .holds)) 7 (omega arith)) g (not-false (startNumbersFit g) fits) l (configOf l) (config-storable l)
 
-pub allowed-then : (b c a : Bool) (rs : List Refusal) → refusal ((8 when b) ∷ (9 when c) ∷ unless a ∷ rs) ≡ 0 → a ≡ true
-unfolding unless
-allowed-then b c a rs e =
-    not-false a (refusal-step 9 (not a) rs (refusal-step 8 c ((10 when not a) ∷ rs) (refusal-step 7 b ((9 when c) ∷ (10 when not a) ∷ rs) e .1) .1) .0)
+  keeps-country : (n : ℕ) (networks l : List ℕ) (room : ℕ) → Passes (country n networks l room) out x → Valid (outcome (country n networks l room) x .line)
+  unfolding isAllowed outcome
+  keeps-country n networks l room p =
+      let calm = calm-in (x .phase) Stage.country refl (p .allowed) in
+      answered-valid x v calm (factsIn (x .phase)) refl (Selection.countryReply (eqb n 1) (networksIn networks)) l (configOf l) (config-storable l)
 
-module _ (out : Bool) (x : Line) where
-  -- an event that isn't refused comes at a time in its range
-  in-time : (e : Event) → refusal (refusalsOf e out x) ≡ 0 → out ≡ false
-  unfolding refusalsOf
-  in-time (start g text room) e = let first = refusal-step 7 _ _ e in search (or-left)
-  in-time (country n networks text room) e = let first = refusal-step 7 _ _ e in search (or-left)
-  in-time (address addresses) e = let first = refusal-step 7 _ _ e in search (or-left)
-  in-time begin e = refusal-step 7 out _ e .0
-  in-time init e = refusal-step 7 out _ e .0
-  in-time (eap packet) e = refusal-step 7 out _ e .0
-  in-time (reply parameters nas room) e = let first = refusal-step 7 _ _ e in search (or-left)
-  in-time (final good) e = let first = refusal-step 7 _ _ e in search (or-left)
-  in-time (error number) e = let first = refusal-step 7 _ _ e in search (or-left)
-  in-time (congestion authenticated timer) e = let first = refusal-step 7 _ _ e in search (or-left)
-  in-time give-up e = refusal-step 7 out _ e .0
-  in-time (child-made spi session) e = let first = refusal-step 7 _ _ e in search (or-left)
-  in-time (child-deleted spi) e = refusal-step 7 out _ e .0
-  in-time ike-delete e = refusal-step 7 out _ e .0
+  keeps-address : (l : List ℕ) → allOf (below 256) l ≡ true → Passes (address l) out x → Valid (outcome (address l) x .line)
+  unfolding isAllowed outcome
+  keeps-address l octets p =
+      addressed-valid x v (calm-in (x .phase) Stage.name refl (p .allowed)) (factsIn (x .phase)) refl (addressesIn l) (addresses-storable l octets)
 
-  -- each event that isn't refused leaves a valid line
-  module _ (v : Valid x) where
-    keeps-start : (g : StartNumbers) (l : List ℕ) (room : ℕ) → refusal (refusalsOf (start g l room) out x) ≡ 0 → Valid (outcome (start g l room) x .line)
-    unfolding refusalsOf outcome unless
-    keeps-start g l room e =
-        let first = refusal-step 7 _ _ e in
-        let third = refusal-step 9 _ _ (refusal-step 8 _ _ (first .1) .1) in
-        let fits : not (startNumbersFit g) ≡ false = search (or-left, or-right) in
-        let calm = calm-in (x .phase) Stage.idle refl (allowed-then _ _ _ _ e) in
-        let few = leb-false 8 (length (x .holds)) (refusal-step 12 _ _ (third .1) .0) in
-        started-valid x v calm (le-leb (length (x .holds)) 7 (omega arith)) g (not-false (startNumbersFit g) fits) l (configOf l) (config-storable l)
+  keeps-begin : Passes begin out x → Valid (outcome begin x .line)
+  unfolding isAllowed outcome keeps goes
+  keeps-begin p = goes-on x v (calm-in (x .phase) Stage.chosen refl (p .allowed)) Init init-carries
 
-    keeps-country : (n : ℕ) (networks l : List ℕ) (room : ℕ) → refusal (refusalsOf (country n networks l room) out x) ≡ 0
-        → Valid (outcome (country n networks l room) x .line)
-    unfolding refusalsOf outcome
-    keeps-country n networks l room e =
-        let calm = calm-in (x .phase) Stage.country refl (allowed-then _ _ _ [] e) in
-        answered-valid x v calm (factsIn (x .phase)) refl (Selection.countryReply (eqb n 1) (networksIn networks)) l (configOf l) (config-storable l)
+  keeps-init : Passes init out x → Valid (outcome init x .line)
+  unfolding isAllowed outcome keeps goes
+  keeps-init p = goes-on x v (calm-in (x .phase) Stage.init refl (p .allowed)) Auth auth-carries
 
-    keeps-address : (l : List ℕ) → allOf (below 256) l ≡ true → refusal (refusalsOf (address l) out x) ≡ 0 → Valid (outcome (address l) x .line)
-    unfolding refusalsOf outcome
-    keeps-address l octets e =
-        let calm = calm-in (x .phase) Stage.name refl (allowed-by _ _ [] e) in
-        addressed-valid x v calm (factsIn (x .phase)) refl (addressesIn l) (addresses-storable l octets)
+  keeps-eap : (packet : List ℕ) → allOf (below 256) packet ≡ true → Passes (eap packet) out x → Valid (outcome (eap packet) x .line)
+  unfolding isAllowed outcome
+  keeps-eap packet octets p =
+      let q = readPacket packet in
+      taken-valid x v (due-calm q (x .phase) (p .allowed)) packet q (packet-storable packet octets)
 
-    keeps-begin : refusal (refusalsOf begin out x) ≡ 0 → Valid (outcome begin x .line)
-    unfolding refusalsOf outcome keeps goes
-    keeps-begin e =
-        goes-on x v (calm-in (x .phase) Stage.chosen refl (allowed-by _ _ [] e)) Init init-carries
+  keeps-reply : (parameters nas : List ℕ) (room : ℕ) → Passes (reply parameters nas room) out x → Valid (outcome (reply parameters nas room) x .line)
+  unfolding isAllowed outcome
+  keeps-reply parameters nas room p = replied-valid x v (calm-owed (x .phase) (p .allowed)) parameters nas (owed (turnIn (x .phase))) refl
 
-    keeps-init : refusal (refusalsOf init out x) ≡ 0 → Valid (outcome init x .line)
-    unfolding refusalsOf outcome keeps goes
-    keeps-init e =
-        goes-on x v (calm-in (x .phase) Stage.init refl (allowed-by _ _ [] e)) Auth auth-carries
+  -- the final answer, AUTH good or bad
+  finished-valid : isIn Stage.live (x .phase) ≡ false → (good : Bool) → Valid (finished x good .line)
+  unfolding finished keeps goes
+  finished-valid calm true = goes-on x v calm Live live-carries
+  finished-valid calm false = rests x v calm
 
-    keeps-eap : (packet : List ℕ) → allOf (below 256) packet ≡ true → refusal (refusalsOf (eap packet) out x) ≡ 0 → Valid (outcome (eap packet) x .line)
-    unfolding refusalsOf outcome
-    keeps-eap packet octets e =
-        let q = readPacket packet in
-        taken-valid x v (due-calm q (x .phase) (allowed-then _ _ _ [] e)) packet q (packet-storable packet octets)
+  keeps-final : (good : ℕ) → Passes (final good) out x → Valid (outcome (final good) x .line)
+  unfolding isAllowed outcome
+  keeps-final good p = finished-valid (calm-in (x .phase) Stage.sure refl (p .allowed)) (eqb good 1)
 
-    keeps-reply : (parameters nas : List ℕ) (room : ℕ) → refusal (refusalsOf (reply parameters nas room) out x) ≡ 0
-        → Valid (outcome (reply parameters nas room) x .line)
-    unfolding refusalsOf outcome
-    keeps-reply parameters nas room e =
-        replied-valid x v (calm-owed (x .phase) (allowed-then _ _ _ [] e)) parameters nas (owed (turnIn (x .phase))) refl
+  keeps-error : (number : ℕ) → Passes (error number) out x → Valid (outcome (error number) x .line)
+  unfolding isAllowed outcome goes
+  keeps-error number p = rests x v (calm-underway (x .phase) (p .allowed))
 
-    -- the final answer, AUTH good or bad
-    finished-valid : isIn Stage.live (x .phase) ≡ false → (good : Bool) → Valid (finished x good .line)
-    unfolding finished keeps goes
-    finished-valid calm true = goes-on x v calm Live live-carries
-    finished-valid calm false = rests x v calm
+  keeps-congestion : (authenticated timer : ℕ) → Passes (congestion authenticated timer) out x → Valid (outcome (congestion authenticated timer) x .line)
+  unfolding isOutOfRange isAllowed outcome becomes
+  keeps-congestion authenticated timer p =
+      let small = or-right (ltb 1 authenticated) (ltb 255 timer) (p .in-range) in
+      let on = and-right (eqb authenticated 1) (underway (x .phase)) (p .allowed) in
+      congested-valid x v (calm-underway (x .phase) on) (busy-underway (x .phase) on) timer (ltb-false 255 timer small)
 
-    keeps-final : (good : ℕ) → refusal (refusalsOf (final good) out x) ≡ 0 → Valid (outcome (final good) x .line)
-    unfolding refusalsOf outcome
-    keeps-final good e =
-        finished-valid (calm-in (x .phase) Stage.sure refl (allowed-by _ _ [] e)) _
+  keeps-give-up : Passes give-up out x → Valid (outcome give-up x .line)
+  unfolding isAllowed outcome goes
+  keeps-give-up p = rests x v (calm-between (x .phase) (p .allowed))
 
-    keeps-error : (number : ℕ) → refusal (refusalsOf (error number) out x) ≡ 0 → Valid (outcome (error number) x .line)
-    unfolding refusalsOf outcome goes
-    keeps-error number e = rests x v (calm-underway (x .phase) (allowed-by _ _ [] e))
+  keeps-child-made : (spi session : ℕ) → Passes (child-made spi session) out x → Valid (outcome (child-made spi session) x .line)
+  unfolding isOutOfRange isAllowed isSpiTaken hasNoRoom outcome becomes
+  keeps-child-made spi session p =
+      let good = not-false (isChild (record { spi = spi; session = session })) (p .in-range) in
+      child-made-valid x v spi session good (p .allowed) (p .new-spi) (p .child-room)
 
-    keeps-congestion : (authenticated timer : ℕ) → refusal (refusalsOf (congestion authenticated timer) out x) ≡ 0
-        → Valid (outcome (congestion authenticated timer) x .line)
-    unfolding refusalsOf outcome becomes
-    keeps-congestion authenticated timer e =
-        let first = refusal-step 7 _ _ e in
-        let small : ltb 255 timer ≡ false = search (or-right) in
-        let on = and-right (eqb authenticated 1) (underway (x .phase)) (allowed-by _ _ [] e) in
-        congested-valid x v (calm-underway (x .phase) on) (busy-underway (x .phase) on) timer (ltb-false 255 timer small)
+  keeps-child-deleted : (spi : ℕ) → Passes (child-deleted spi) out x → Valid (outcome (child-deleted spi) x .line)
+  unfolding isAllowed outcome becomes
+  keeps-child-deleted spi p = child-deleted-valid x v spi (and-left (isIn Stage.live (x .phase)) (hasSpi spi (x .children)) (p .allowed))
 
-    keeps-give-up : refusal (refusalsOf give-up out x) ≡ 0 → Valid (outcome give-up x .line)
-    unfolding refusalsOf outcome goes
-    keeps-give-up e =
-        rests x v (calm-between (x .phase) (allowed-by _ _ [] e))
+  keeps-ike-delete : Valid (outcome ike-delete x .line)
+  unfolding outcome becomes
+  keeps-ike-delete = deleted-valid x v
 
-    keeps-child-made : (spi session : ℕ) → refusal (refusalsOf (child-made spi session) out x) ≡ 0 → Valid (outcome (child-made spi session) x .line)
-    unfolding refusalsOf outcome unless becomes
-    keeps-child-made spi session e =
-        let first = refusal-step 7 _ _ e in
-        let second = refusal-step 9 _ _ (first .1) in
-        let third = refusal-step 10 _ _ (second .1) in
-        let good = or-right out (badChild spi session) (first .0) in
-        child-made-valid x v spi session good (allowed-by _ _ _ e) (third .0) (refusal-step 11 _ _ (third .1) .0)
-
-    keeps-child-deleted : (spi : ℕ) → refusal (refusalsOf (child-deleted spi) out x) ≡ 0 → Valid (outcome (child-deleted spi) x .line)
-    unfolding refusalsOf outcome becomes
-    keeps-child-deleted spi e =
-        child-deleted-valid x v spi (and-left (isIn Stage.live (x .phase)) (hasSpi spi (x .children)) (allowed-by _ _ [] e))
-
-    keeps-ike-delete : Valid (outcome ike-delete x .line)
-    unfolding outcome becomes
-    keeps-ike-delete = deleted-valid x v
-
-    keeps-valid : (e : Event) → allOf (below 256) (eventOctets e) ≡ true → refusal (refusalsOf e out x) ≡ 0 → Valid (outcome e x .line)
-    unfolding eventOctets
-    keeps-valid (start g l room) octets e = keeps-start g l room e
-    keeps-valid (country n networks l room) octets e = keeps-country n networks l room e
-    keeps-valid (address l) octets e = keeps-address l octets e
-    keeps-valid begin octets e = keeps-begin e
-    keeps-valid init octets e = keeps-init e
-    keeps-valid (eap packet) octets e = keeps-eap packet octets e
-    keeps-valid (reply parameters nas room) octets e = keeps-reply parameters nas room e
-    keeps-valid (final good) octets e = keeps-final good e
-    keeps-valid (error number) octets e = keeps-error number e
-    keeps-valid (congestion authenticated timer) octets e = keeps-congestion authenticated timer e
-    keeps-valid give-up octets e = keeps-give-up e
-    keeps-valid (child-made spi session) octets e = keeps-child-made spi session e
-    keeps-valid (child-deleted spi) octets e = keeps-child-deleted spi e
-    keeps-valid ike-delete octets e = keeps-ike-delete
+  keeps-valid : (e : Event) → allOf (below 256) (eventOctets e) ≡ true → Passes e out x → Valid (outcome e x .line)
+  unfolding eventOctets
+  keeps-valid (start g l room) octets p = keeps-start g l room p
+  keeps-valid (country n networks l room) octets p = keeps-country n networks l room p
+  keeps-valid (address l) octets p = keeps-address l octets p
+  keeps-valid begin octets p = keeps-begin p
+  keeps-valid init octets p = keeps-init p
+  keeps-valid (eap packet) octets p = keeps-eap packet octets p
+  keeps-valid (reply parameters nas room) octets p = keeps-reply parameters nas room p
+  keeps-valid (final good) octets p = keeps-final good p
+  keeps-valid (error number) octets p = keeps-error number p
+  keeps-valid (congestion authenticated timer) octets p = keeps-congestion authenticated timer p
+  keeps-valid give-up octets p = keeps-give-up p
+  keeps-valid (child-made spi session) octets p = keeps-child-made spi session p
+  keeps-valid (child-deleted spi) octets p = keeps-child-deleted spi p
+  keeps-valid ike-delete octets p = keeps-ike-delete
 
 -- every event that isn't refused leaves a line sound whose parts fit their octets
 pub keeps-line : (e : Event) (time : ℕ) (x : Line) → allOf (below 256) (eventOctets e) ≡ true → lineSound x ≡ true → lineStorable x ≡ true
-    → refusal (refusalsOf e (ltb 4294967295 time) (current time x)) ≡ 0
+    → refusal (refusalsOf e (ltb lastTime time) (current time x)) ≡ 0
     → (lineSound (outcome e (current time x) .line) ≡ true) × (lineStorable (outcome e (current time x) .line) ≡ true)
 keeps-line e time x octets sound fits accepted =
-    let out = ltb 4294967295 time in
+    let out = ltb lastTime time in
     let now = current time x in
-    let before = current-valid time x (valid-of x sound fits) (in-time out now e accepted) in
-    let after = keeps-valid out now before e octets accepted in
+    let p = passes e out now accepted in
+    let before = current-valid time x (valid-of x sound fits) (p .in-time) in
+    let after = keeps-valid out now before e octets p in
     let y = outcome e now .line in
     (sound-of y after, held-of y after)

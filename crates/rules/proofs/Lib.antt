@@ -18,6 +18,7 @@ pub mod Numbers
 pub mod Phases
 pub mod Refused
 pub mod Rooms
+pub mod Rows
 pub mod Runs
 pub mod Selecting
 pub mod Timed

@@ -26,7 +26,7 @@ use Rattle.text.specs.Text.{text}
 use Rattle.text.proofs.Texts.{decimal-below, length-digitText}
 use Rattle.rules.specs.Call.{pairOf}
 use Rattle.rules.specs.Listing.{addressText, childText, lineText, listFrom, newline, tab, word}
-use Rattle.rules.specs.Run.{ownLine}
+use Rattle.rules.specs.View.{ownLine}
 use Rattle.rules.proofs.Accepted.{found-sound}
 
 -- no version has more than 16 octets

@@ -4,11 +4,12 @@ use mathlib.Core.List.{List}
 use mathlib.Core.Path.{_≡_, refl, sym, ap, _∙_}
 use lib.ListN.{length}
 use Rattle.octets.proofs.Parts.{length-zeros}
+use Rattle.rules.specs.View.{View}
 use Rattle.octets.proofs.Search.{either}
 use Rattle.rules.specs.Answer.{Action, nothing, stopped, ask-country, ask-text, ask-built, chose, send-init, send-auth-request, ask-nas, hand-up, send-response, send-auth, live, released, error-up, listed, numbersOf, twelve}
 use Rattle.rules.specs.Call.{Call, opening, closing, listing, timed}
 use Rattle.rules.specs.Claims.{countOf}
-use Rattle.rules.specs.Run.{Result, View, answerOf, bare, run, step, stepOf, timedStep}
+use Rattle.rules.specs.Run.{Result, answerOf, bare, run, step, stepOf, timedStep}
 use Rattle.rules.proofs.Refused.{given-is, refusal-leaves}
 use Rattle.rules.proofs.Runs.{accepted, number}
 

@@ -6,11 +6,13 @@ use mathlib.Core.Option.{Option, none, some}
 use mathlib.Core.Path.{_≡_, refl, sym, ap, _∙_}
 use native.Mathlib.Omega.{arith}
 use lib.Dec.{eqb, ltb}
-use lib.ListN.{getD, length}
+use lib.ListN.{length}
 use borrow.Author.Tests.{ltb-false, not-false}
-use Rattle.octets.specs.Refusal.{refusal}
+use Rattle.response.specs.Response.{lentOutOfRange, replyRoom}
+use Rattle.rules.specs.Claims.{NoRow}
+use Rattle.rules.proofs.Rows.{Passes, passes}
+use Rattle.rules.specs.View.{viewOf, lineFound, viewIn}
 use Rattle.octets.proofs.Parts.{length-zeros, padded-length}
-use Rattle.octets.proofs.Refusals.{refusal-step}
 use Rattle.octets.proofs.Search.{either, or-left, or-right}
 use Rattle.address.specs.Address.{heldAddresses}
 use Rattle.config.specs.Settings.{Settings, configOf}
@@ -30,18 +32,16 @@ use Rattle.response.proofs.Writing.{length-response}
 use Rattle.selection.specs.Selection as Selection
 use Rattle.selection.specs.declared.Choice.{Choice}
 use Rattle.selection.specs.declared.Choice.the-variants as Choice
-use Rattle.table.specs.Slots.{slotsOf}
 use Rattle.table.specs.Table.{isTable}
-use Rattle.rules.specs.Answer.{eventRoom}
-use Rattle.rules.specs.Call.{Event, start, country, address, begin, init, eap, reply, final, error, congestion, give-up, child-made, child-deleted, ike-delete, Call, opening, closing, listing, timed, factsOf, tenantOf}
-use Rattle.rules.specs.Claims.{roomOf}
-use Rattle.rules.specs.Life.{addressAnswered, becomes, countryAnswered, current, decided, finished, gatewayFound, goes, keeps, nameAsked, outcome, packetTaken, replied, started}
+use Rattle.rules.specs.Answer.{eventRoom, roomOf}
+use Rattle.rules.specs.Call.{Event, start, country, address, begin, init, eap, reply, final, error, congestion, give-up, child-made, child-deleted, ike-delete, Call, opening, closing, listing, timed, factsOf, tenantOf, lastTime, listingRoom}
+use Rattle.rules.specs.Life.{addressAnswered, becomes, countryAnswered, decided, finished, gatewayFound, goes, keeps, nameAsked, outcome, packetTaken, replied, started}
 use Rattle.rules.specs.Phases.{factsIn, owed, turnIn}
-use Rattle.rules.specs.Refusals.{badReply, refusalsOf}
-use Rattle.rules.specs.Run.{Result, answerOf, bare, isShort, lineOr, run, step, stepOf, timedStep, viewOf}
-use Rattle.rules.proofs.Accepted.{event-number, third-fails, timed-room}
+use Rattle.rules.specs.Refusals.{isShort, leastEventRoom, leastRoom, isOutOfRange, lacksParameters}
+use Rattle.rules.specs.Run.{Result, answerOf, bare, run, step, stepOf, timedStep}
+use Rattle.rules.proofs.Accepted.{event-number}
 use Rattle.rules.proofs.Listings.{listing-short}
-use Rattle.rules.proofs.Refused.{given-is, refusal-leaves}
+use Rattle.rules.proofs.Refused.{given-is, refusal-leaves, no-row}
 use Rattle.rules.proofs.Runs.{accepted, number}
 
 -- a name that is built has at most 52 octets
@@ -102,56 +102,52 @@ module _ (x : Line) where
   finished-written false = refl
 
   -- a response to AN-parameters and NAS in their ranges has at most 3,090 octets
-  replied-short : (parameters nas : List ℕ) → badReply parameters nas (x .phase) ≡ false → (o : Option ℕ) → length (replied x parameters nas o .written) ≤ 3090
-  unfolding badReply replied goes
+  replied-short : (parameters nas : List ℕ) → lentOutOfRange parameters nas ≡ false → (o : Option ℕ) → length (replied x parameters nas o .written) ≤ replyRoom
+  unfolding lentOutOfRange replied goes
   replied-short parameters nas fit none = omega arith
   replied-short parameters nas fit (some i) =
       let parameters-fit : ltb 1024 (length parameters) ≡ false = search (or-left, or-right) in
       let nas-fits : ltb 2048 (length nas) ≡ false = search (or-left, or-right) in
       rw (length-response i parameters nas) (omega (arith, ltb-false))
 
--- the lists that a reply is accepted with are in their ranges
-reply-fits : (parameters nas : List ℕ) (room : ℕ) (out : Bool) (x : Line) → refusal (refusalsOf (reply parameters nas room) out x) ≡ 0 → badReply parameters nas (x .phase) ≡ false
-unfolding refusalsOf
-reply-fits parameters nas room out x e = or-right out (badReply parameters nas (x .phase)) (refusal-step 7 _ _ e .0)
-
 -- what an event that is not refused writes fits its buffer
-written-fits : (e : Event) (out : Bool) (x : Line) → isShort e ≡ false → refusal (refusalsOf e out x) ≡ 0 → length (outcome e x .written) ≤ eventRoom e
-unfolding outcome isShort eventRoom keeps goes becomes
-written-fits (start g t room) out x long e = omega (arith, ltb-false, started-short x (factsOf g) t (configOf t))
-written-fits (country n networks t room) out x long e =
+written-fits : (e : Event) (out : Bool) (x : Line) → ltb (eventRoom e) (leastEventRoom e) ≡ false → Passes e out x → length (outcome e x .written) ≤ eventRoom e
+unfolding outcome eventRoom leastEventRoom isOutOfRange keeps goes becomes
+written-fits (start g t room) out x long p = omega (arith, ltb-false, started-short x (factsOf g) t (configOf t))
+written-fits (country n networks t room) out x long p =
     omega (arith, ltb-false, answered-short x (factsIn (x .phase)) (Selection.countryReply (eqb n 1) (networksIn networks)) t (configOf t))
-written-fits (address list) out x long e = rw (addressed-written x (factsIn (x .phase)) list) (omega arith)
-written-fits begin out x long e = omega arith
-written-fits init out x long e = omega arith
-written-fits (eap packet) out x long e = rw (taken-written x packet (readPacket packet)) (omega arith)
-written-fits (reply parameters nas room) out x long e =
-    omega (arith, ltb-false, replied-short x parameters nas (reply-fits parameters nas room out x e) (owed (turnIn (x .phase))))
-written-fits (final good) out x long e = rw (finished-written x (eqb good 1)) (omega arith)
-written-fits (error n) out x long e = omega arith
-written-fits (congestion authenticated timer) out x long e = omega arith
-written-fits give-up out x long e = omega arith
-written-fits (child-made spi session) out x long e = omega arith
-written-fits (child-deleted spi) out x long e = omega arith
-written-fits ike-delete out x long e = omega arith
+written-fits (address list) out x long p = rw (addressed-written x (factsIn (x .phase)) list) (omega arith)
+written-fits begin out x long p = omega arith
+written-fits init out x long p = omega arith
+written-fits (eap packet) out x long p = rw (taken-written x packet (readPacket packet)) (omega arith)
+written-fits (reply parameters nas room) out x long p =
+    let fit = or-left (lentOutOfRange parameters nas) (lacksParameters parameters (x .phase)) (p .in-range) in
+    omega (arith, ltb-false, replied-short x parameters nas fit (owed (turnIn (x .phase))))
+written-fits (final good) out x long p = rw (finished-written x (eqb good 1)) (omega arith)
+written-fits (error n) out x long p = omega arith
+written-fits (congestion authenticated timer) out x long p = omega arith
+written-fits give-up out x long p = omega arith
+written-fits (child-made spi session) out x long p = omega arith
+written-fits (child-deleted spi) out x long p = omega arith
+written-fits ike-delete out x long p = omega arith
 
 -- the buffer of an accepted call
-accepted-room : (c : Call) (l : List ℕ) → refusal (stepOf c l .refusals) ≡ 0 → length (stepOf c l .answer .buffer) ≡ roomOf c
-unfolding stepOf step tenantOf roomOf bare timedStep answerOf viewOf
-accepted-room (opening tenant line) l e = refl
-accepted-room (closing tenant line) l e = refl
-accepted-room (listing tenant room) l e =
-    let sound = not-false (isTable l) (refusal-step 0 _ _ e .0) in
-    let long = third-fails 0 1 2 _ _ _ _ e in
+accepted-room : (c : Call) (l : List ℕ) → NoRow c (viewIn c l) → length (stepOf c l .answer .buffer) ≡ roomOf c
+unfolding stepOf step viewIn tenantOf roomOf leastRoom isShort bare timedStep answerOf viewOf
+accepted-room (opening tenant line) l r = refl
+accepted-room (closing tenant line) l r = refl
+accepted-room (listing tenant room) l r =
+    let sound = not-false (isTable l) (r .row-1) in
+    let long : ltb room listingRoom ≡ false = r .row-3 in
     let short = listing-short l sound tenant in
     padded-length room _ (omega (arith, ltb-false))
-accepted-room (timed tenant line time event) l e =
-    let v = viewOf (isTable l) tenant (slotsOf l) in
-    let found = getD (v .lines) line none in
-    padded-length (eventRoom event) (outcome event (current time (lineOr found)) .written)
-    (written-fits event (ltb 4294967295 time) (current time (lineOr found)) (timed-room tenant line time event v found e) (event-number tenant line time event v found e))
+accepted-room (timed tenant line time event) l r =
+    let v = viewIn (timed tenant line time event) l in
+    let x = lineFound line time v in
+    padded-length (eventRoom event) (outcome event x .written)
+    (written-fits event (ltb lastTime time) x (r .row-3) (passes event (ltb lastTime time) x (event-number tenant line time event v r)))
 
 pub answer-room : (c : Call) (l : List ℕ) → length (run c l .answer .buffer) ≡ roomOf c
 answer-room c l =
-    either (number c l) 0 (λ e. ap (λ (r : Result). length (r .answer .buffer)) (accepted c l e) ∙ accepted-room c l e)
+    either (number c l) 0 (λ e. ap (λ (r : Result). length (r .answer .buffer)) (accepted c l e) ∙ accepted-room c l (no-row c (viewIn c l) e))
     (λ h. ap length (refusal-leaves c l (λ e. h (sym (given-is c l) ∙ e)) .buffer) ∙ length-zeros (roomOf c))

@@ -1,17 +1,17 @@
 -- What a call leaves of a sound table.
 use Prim.Native.Nat.{ℕ, zero, suc, _≤_}
-use mathlib.Core.Bool.{Bool, true, cond, not}
-use mathlib.Core.List.{List, [], _∷_}
+use mathlib.Core.Bool.{Bool, true, cond}
+use mathlib.Core.List.{List}
 use mathlib.Core.Option.{Option, none, some}
 use mathlib.Core.Path.{_≡_, refl, sym, ap, _∙_, subst}
 use native.Mathlib.Nat.{zero-add}
 use native.Mathlib.Omega.{arith}
 use lib.Dec.{eqb}
-use lib.ListN.{getD, set}
+use lib.ListN.{set}
 use borrow.Author.Tests.{eq-eqb, ne-eqb, le-ltb}
 use Rattle.octets.specs.Part.{padded, zeros}
-use Rattle.octets.specs.Refusal.{_when_, refusal}
-use Rattle.octets.specs.Row.{row, isSome}
+use Rattle.octets.specs.Refusal.{refusal}
+use Rattle.octets.specs.Row.{row}
 use Rattle.octets.specs.Search.{allOf}
 use Rattle.octets.proofs.Rows.{row-set}
 use Rattle.octets.proofs.Search.{either}
@@ -20,19 +20,22 @@ use Rattle.record.specs.Line.{Line}
 use Rattle.table.specs.Slots.{Free, lineAt, pairIn, slotLine, slotOctets, slotsOf}
 use Rattle.table.specs.Table.{isTable, recordOf, slot}
 use Rattle.table.proofs.Stored as Stored
+use Rattle.rules.specs.Answer.{roomOf}
 use Rattle.rules.specs.Call.{Call, opening, closing, listing, lentOctets, pairOf, tenantOf}
 use Rattle.rules.specs.Claims.{Good, numberGiven, lineIn}
 use Rattle.rules.specs.Histories.{isOctets}
 use Rattle.rules.specs.Listing.{listFrom}
-use Rattle.rules.specs.Run.{Result, Step, applied, fresh, isNoPair, ownLine, run, settled, step, stepOf, viewOf}
+use Rattle.rules.specs.Refusals.{eventRefusals, isEarly, isFull, isNoPair, isNotOpen, isOpenAlready, isShort, leastRoom, refusals}
+use Rattle.rules.specs.Run.{Result, Step, applied, run, settled, step, stepOf}
+use Rattle.rules.specs.View.{View, fresh, ownLine, viewIn, viewOf}
 use Rattle.rules.specs.OnSlots.{runOn, settledOn}
-use Rattle.rules.proofs.Accepted.{ready, second-fails, tenant-range}
+use Rattle.rules.proofs.Accepted.{ready, tenant-range}
 use Rattle.rules.proofs.Acts.{Ready, act-line, applied-good, applied-slots, lineAfter}
-use Rattle.rules.proofs.Refused.{given-is}
+use Rattle.rules.proofs.Refused.{accepted-exactly, given-is}
 
 module _ (c : Call) (l : List ℕ) where
   abbrev pub number : ℕ
-  number = refusal (stepOf c l .refusals)
+  number = refusal (refusals c (viewIn c l))
 
   -- an accepted call applies its act
   pub accepted : number ≡ 0 → run c l ≡ record { answer = stepOf c l .answer; table = applied (stepOf c l .act) l }
@@ -55,10 +58,10 @@ module _ (c : Call) (l : List ℕ) (octets : isOctets c ≡ true) (good : Good l
       (λ e. subst (λ (r : Result). Good (r .table)) (sym (accepted c l e)) (applied-good l good (stepOf c l .act) (ready c l octets good e)))
       (λ h. subst (λ (t : List ℕ). Good t) (sym (table-left c l h)) good)
 
-  -- the step on the slots of a sound table
-  same-step : stepOf c l ≡ step c (viewOf true (tenantOf c) (slotsOf l))
-  unfolding stepOf
-  same-step = ap (λ (b : Bool). step c (viewOf b (tenantOf c) (slotsOf l))) (good .sound)
+  -- the view of the slots of a sound table
+  same-view : viewIn c l ≡ viewOf true (tenantOf c) (slotsOf l)
+  unfolding viewIn
+  same-view = ap (λ (b : Bool). viewOf b (tenantOf c) (slotsOf l)) (good .sound)
 
   both : (n : ℕ) (s : Step) → (n ≡ 0 → Ready l (s .act))
       → (settled n c s l .answer ≡ settledOn n c s (slotsOf l) .answer) × (slotsOf (settled n c s l .table) ≡ settledOn n c s (slotsOf l) .slots)
@@ -67,9 +70,9 @@ module _ (c : Call) (l : List ℕ) (octets : isOctets c ≡ true) (good : Good l
   both (suc n) s r = (refl, refl)
 
   pub run-slots : (run c l .answer ≡ runOn c (slotsOf l) .answer) × (slotsOf (run c l .table) ≡ runOn c (slotsOf l) .slots)
-  unfolding run runOn
+  unfolding run runOn stepOf
   run-slots =
-      subst (λ (s : Step). (run c l .answer ≡ settledOn (refusal (s .refusals)) c s (slotsOf l) .answer) × (slotsOf (run c l .table) ≡ settledOn (refusal (s .refusals)) c s (slotsOf l) .slots)) same-step
+      subst (λ (v : View). (run c l .answer ≡ settledOn (refusal (refusals c v)) c (step c v) (slotsOf l) .answer) × (slotsOf (run c l .table) ≡ settledOn (refusal (refusals c v)) c (step c v) (slotsOf l) .slots)) same-view
       (both (number c l) (stepOf c l) (ready c l octets good))
 
 -- closing
@@ -115,16 +118,13 @@ module _ (tenant line : ℕ) (l : List ℕ) (good : Good l) (e : numberGiven (op
 
 -- an accepted open has a tenant
 opened-tenant : (tenant line : ℕ) (l : List ℕ) → numberGiven (opening tenant line) l ≡ 0 → tenant ≤ 15
-unfolding stepOf step tenantOf
-opened-tenant tenant line l e =
-    let v = viewOf (isTable l) tenant (slotsOf l) in
-    let has = isSome (getD (v .lines) line none) in
-    tenant-range tenant line (second-fails 0 1 3 (not (v .sound)) (isNoPair tenant line) has ((6 when not (v .free)) ∷ []) (sym (given-is (opening tenant line) l) ∙ e))
+unfolding isNoPair
+opened-tenant tenant line l e = tenant-range tenant line (accepted-exactly (opening tenant line) l .0 e .row-2)
 
 -- an accepted listing shows the lines of its tenant
 listed-lines : (tenant room : ℕ) (l : List ℕ) → isTable l ≡ true → tenant ≤ 15 → 1024 ≤ room
     → run (listing tenant room) l .answer .buffer ≡ padded room (listFrom 0 (row (ownLine tenant (slotsOf l)) 0 4))
-unfolding run settled stepOf step refusal tenantOf viewOf
+unfolding run settled stepOf step refusal refusals isNoPair isShort roomOf leastRoom isOpenAlready isNotOpen isFull isEarly eventRefusals viewIn tenantOf viewOf
 listed-lines tenant room l sound small long = rw (sound, le-ltb 15 tenant small, le-ltb room 1024 long)
 
 pub taken-over-listed : (tenant line room : ℕ) (l : List ℕ) → Good l → numberGiven (opening tenant line) l ≡ 0 → 1024 ≤ room

@@ -6,7 +6,6 @@ use mathlib.Core.Option.{Option, none, some}
 use mathlib.Core.Path.{_≡_, refl, sym, ap, _∙_, subst}
 use native.Mathlib.Omega.{arith}
 use lib.Dec.{eqb, ltb}
-use lib.ListN.{getD}
 use borrow.Author.Tests.{eq-eqb}
 use Rattle.octets.specs.Refusal.{refusal}
 use Rattle.address.specs.Address.{heldAddresses}
@@ -26,15 +25,17 @@ use Rattle.selection.proofs.Ends.{stops-exactly}
 use Rattle.table.specs.Slots.{lineAt, pairIn, slotLine, slotsOf}
 use Rattle.table.specs.Table.{isTable}
 use Rattle.rules.specs.Answer.{numbersOf, twelve}
-use Rattle.rules.specs.Call.{StartNumbers, Event, start, country, address, Call, timed, factsOf, pairOf, tenantOf}
-use Rattle.rules.specs.Claims.{Timed, lineIn, stopSaid}
+use Rattle.rules.specs.Call.{StartNumbers, Event, start, country, address, Call, timed, factsOf, lastTime, pairOf, tenantOf}
+use Rattle.rules.specs.Claims.{NoRow, Timed, lineIn, stopSaid}
 use Rattle.rules.specs.Life.{Outcome, addressAnswered, countryAnswered, nameAsked, current, decided, gatewayFound, goes, outcome, started}
 use Rattle.rules.specs.Phases.{factsIn}
 use Rattle.rules.specs.Refusals.{refusalsOf}
-use Rattle.rules.specs.Run.{Result, Step, View, answerOf, lineOr, run, step, stepOf, timedStep, viewOf}
+use Rattle.rules.specs.Run.{Result, Step, answerOf, run, step, stepOf, timedStep}
+use Rattle.rules.specs.View.{View, lineFound, lineOr, viewIn}
 use Rattle.rules.proofs.Accepted.{event-number, own-is, ready, timed-pair}
 use Rattle.rules.proofs.Acts.{act-line, lineAfter}
-use Rattle.rules.proofs.Refused.{given-is}
+use Rattle.rules.proofs.Refused.{given-is, no-row}
+use Rattle.rules.proofs.Rows.{Passes, passes}
 use Rattle.rules.proofs.Runs.{accepted, number}
 
 module _ (tenant line time : ℕ) (e : Event) (l : List ℕ) (x : Line) (t : Timed tenant line time e l x) where
@@ -42,7 +43,7 @@ module _ (tenant line time : ℕ) (e : Event) (l : List ℕ) (x : Line) (t : Tim
   c = timed tenant line time e
 
   abbrev v : View
-  v = viewOf (isTable l) tenant (slotsOf l)
+  v = viewIn c l
 
   abbrev o : Outcome
   o = outcome e (current time x)
@@ -50,26 +51,33 @@ module _ (tenant line time : ℕ) (e : Event) (l : List ℕ) (x : Line) (t : Tim
   no-number : number c l ≡ 0
   no-number = sym (given-is c l) ∙ t .accepted
 
-  own-line : getD (v .lines) line none ≡ some x
-  unfolding stepOf step tenantOf lineIn
-  own-line = own-is tenant line (timed-pair tenant line time e v (getD (v .lines) line none) no-number) (slotsOf l) (isTable l) ∙ t .stands
+  -- no row of the table of refusal numbers applies
+  no-refusal : NoRow c v
+  no-refusal = no-row c v no-number
+
+  own-line : lineFound line time v ≡ current time x
+  unfolding viewIn tenantOf lineIn lineFound lineOr
+  own-line =
+      ap (λ (o : Option Line). current time (lineOr o)) (own-is tenant line (timed-pair tenant line time e v no-refusal) (slotsOf l) (isTable l) ∙ t .stands)
 
   -- the step is that of the line
-  line-step : stepOf c l ≡ timedStep tenant line time e v (some x)
-  unfolding stepOf step tenantOf
-  line-step = ap (timedStep tenant line time e v) own-line
+  line-step : stepOf c l ≡ timedStep tenant line e (current time x)
+  unfolding stepOf step
+  line-step = ap (timedStep tenant line e) own-line
 
   -- none of the event's conditions holds
-  pub no-ground : refusal (refusalsOf e (ltb 4294967295 time) (current time x)) ≡ 0
-  unfolding lineOr
-  no-ground = event-number tenant line time e v (some x) (ap (λ (s : Step). refusal (s .refusals)) (sym line-step) ∙ no-number)
+  pub no-ground : refusal (refusalsOf e (ltb lastTime time) (current time x)) ≡ 0
+  no-ground = subst (λ (y : Line). refusal (refusalsOf e (ltb lastTime time) y) ≡ 0) own-line (event-number tenant line time e v no-refusal)
+
+  pub event-passes : Passes e (ltb lastTime time) (current time x)
+  event-passes = passes e (ltb lastTime time) (current time x) no-ground
 
   answer-is : run c l .answer ≡ answerOf e o
-  unfolding timedStep lineOr
+  unfolding timedStep
   answer-is = ap (λ (r : Result). r .answer) (accepted c l no-number) ∙ ap (λ (s : Step). s .answer) line-step
 
   line-is : lineIn (run c l .table) tenant line ≡ some (o .line)
-  unfolding lineIn timedStep lineOr lineAfter pairIn slotLine pairOf
+  unfolding lineIn timedStep lineAfter pairIn slotLine pairOf
   line-is =
       let p = pairOf tenant line in
       ap (λ (r : Result). lineAt p (slotsOf (r .table))) (accepted c l no-number)

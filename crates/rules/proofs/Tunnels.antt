@@ -1,17 +1,15 @@
 -- Children stand only on a live line; a child made adds one, a child deleted takes one.
 use Prim.Native.Nat.{ℕ, suc, _≤_}
-use mathlib.Core.Bool.{Bool, true, false, not, _&&_, _||_, false≢true}
+use mathlib.Core.Bool.{Bool, true, false, not, _||_, false≢true}
 use mathlib.Core.List.{List, [], _∷_, _++_}
 use mathlib.Core.Option.{some}
-use mathlib.Core.Path.{_≡_, refl, sym, ap, _∙_}
+use mathlib.Core.Path.{_≡_, refl, ap, _∙_}
 use native.Mathlib.Omega.{arith}
-use lib.Dec.{leb, ltb}
+use lib.Dec.{leb}
 use lib.ListN.{length}
-use borrow.Author.Tests.{eqb-true, leb-true, not-false, not-true}
-use Rattle.octets.specs.Refusal.{_when_}
+use borrow.Author.Tests.{eqb-true, leb-true, not-true}
 use Rattle.octets.specs.Row.{keep, only}
 use Rattle.octets.specs.Search.{anyOf, distinct}
-use Rattle.octets.proofs.Refusals.{refusal-step}
 use Rattle.octets.proofs.Search.{and-left, and-right, or-left, or-other, or-right}
 use Rattle.children.specs.Children.{hasSpi, isSpi, sameSpi, spisDiffer}
 use Rattle.children.specs.declared.Child.{Child}
@@ -21,10 +19,10 @@ use Rattle.record.specs.Line.{Line}
 use Rattle.rules.specs.Call.{child-made, child-deleted, timed, pairOf}
 use Rattle.rules.specs.Claims.{Good, Timed, lineIn}
 use Rattle.rules.specs.Life.{becomes, current, isOther, outcome, withChildren}
-use Rattle.rules.specs.Refusals.{badChild, refusalsOf, unless}
+use Rattle.rules.specs.Refusals.{isAllowed}
 use Rattle.rules.specs.Run.{run}
 use Rattle.rules.proofs.Accepted.{found-storable, found-sound}
-use Rattle.rules.proofs.Timed.{no-ground, timed-run}
+use Rattle.rules.proofs.Timed.{event-passes, timed-run}
 use Rattle.rules.proofs.Valid.{Valid, valid-of}
 
 none-left : (cs : List Child) → length cs ≤ 0 → cs ≡ []
@@ -69,26 +67,16 @@ module _ (tenant line time spi : ℕ) (l : List ℕ) (x : Line) where
       → (isIn Stage.live (x .phase) ≡ true)
       × (lineIn (run (timed tenant line time (child-made spi session)) l .table) tenant line
       ≡ some (withChildren (current time x) (x .children ++ record { spi = spi; session = session } ∷ [])))
-  unfolding refusalsOf unless outcome becomes current
+  unfolding isAllowed outcome becomes current
   tunnels-made session t =
       let e = child-made spi session in
-      let y = current time x in
-      let standing = (11 when hasSpi spi (y .children)) ∷ (12 when leb 8 (length (y .children))) ∷ [] in
-      let live = isIn Stage.live (x .phase) in
-      let range = ltb 4294967295 time || badChild spi session in (
-        not-false live (refusal-step 9 (not live) standing (refusal-step 7 range ((10 when not live) ∷ standing) (no-ground tenant line time e l x t) .1) .0),
-        timed-run tenant line time e l x t .1,
-      )
+      (event-passes tenant line time e l x t .allowed, timed-run tenant line time e l x t .1)
 
   pub tunnels-deleted : Timed tenant line time (child-deleted spi) l x
       → (lineIn (run (timed tenant line time (child-deleted spi)) l .table) tenant line ≡ some (withChildren (current time x) (only (isOther spi) (x .children))))
       × (suc (length (only (isOther spi) (x .children))) ≡ length (x .children))
-  unfolding refusalsOf unless outcome becomes current
+  unfolding isAllowed outcome becomes current
   tunnels-deleted t =
       let e = child-deleted spi in
-      let live = isIn Stage.live (x .phase) in
-      let both = live && hasSpi spi (x .children) in
-      let there : both ≡ true = not-false both (refusal-step 9 (not both) [] (refusal-step 7 (ltb 4294967295 time) ((10 when not both) ∷ []) (no-ground tenant line time e l x t) .1) .0) in (
-        timed-run tenant line time e l x t .1,
-        one-less spi (x .children) (line-valid tenant line l x (t .good) (t .stands) .children-valid .differ) (and-right live (hasSpi spi (x .children)) there),
-      )
+      let there = and-right (isIn Stage.live (x .phase)) (hasSpi spi (x .children)) (event-passes tenant line time e l x t .allowed) in
+      (timed-run tenant line time e l x t .1, one-less spi (x .children) (line-valid tenant line l x (t .good) (t .stands) .children-valid .differ) there)

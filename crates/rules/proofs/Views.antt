@@ -7,7 +7,6 @@ use mathlib.Core.Path.{_≡_, refl, sym, ap, _∙_, subst}
 use native.Mathlib.Nat.{zero-add}
 use native.Mathlib.Omega.{arith}
 use lib.Dec.{ltb}
-use lib.ListN.{getD}
 use Rattle.octets.specs.Refusal.{_when_, refusal}
 use Rattle.octets.proofs.Counts.{count-same}
 use Rattle.octets.proofs.Rows.{getD-past, getD-row, row-same}
@@ -20,7 +19,9 @@ use Rattle.table.proofs.Lookups.{open-line}
 use Rattle.table.proofs.Views.{room}
 use Rattle.rules.specs.Call.{Call, opening, closing, pairOf, tenantOf}
 use Rattle.rules.specs.Claims.{Alike}
-use Rattle.rules.specs.Run.{View, isNoPair, ownLine, step, stepOf, viewOf}
+use Rattle.rules.specs.Refusals.{eventRefusals, isEarly, isFull, isNoPair, isNotOpen, isOpenAlready, isShort, refusals}
+use Rattle.rules.specs.Run.{step, stepOf}
+use Rattle.rules.specs.View.{View, lineSeen, ownLine, viewIn, viewOf}
 use Rattle.rules.proofs.Runs.{number}
 
 view-equal : {s t f g : Bool} {xs ys : List (Option Line)} → s ≡ t → f ≡ g → xs ≡ ys
@@ -40,27 +41,27 @@ module _ (a : ℕ) (l m : List ℕ) (alike : Alike a l m) where
       ∙ sym (room m (alike .right .sound))
 
   -- the tenant's own view
-  pub same-view : viewOf (isTable l) a (slotsOf l) ≡ viewOf (isTable m) a (slotsOf m)
+  own-view : viewOf (isTable l) a (slotsOf l) ≡ viewOf (isTable m) a (slotsOf m)
   unfolding viewOf ownLine
-  same-view = view-equal same-sound same-free (row-same (ownLine a (slotsOf m)) (ownLine a (slotsOf l)) 0 4 (λ i h m. alike .lines i (omega arith)))
+  own-view = view-equal same-sound same-free (row-same (ownLine a (slotsOf m)) (ownLine a (slotsOf l)) 0 4 (λ i h m. alike .lines i (omega arith)))
 
-  pub same-step : (c : Call) → tenantOf c ≡ a → stepOf c l ≡ stepOf c m
-  unfolding stepOf
-  same-step c e = subst (λ (t : ℕ). step c (viewOf (isTable l) t (slotsOf l)) ≡ step c (viewOf (isTable m) t (slotsOf m))) (sym e) (ap (step c) same-view)
+  pub same-view : (c : Call) → tenantOf c ≡ a → viewIn c l ≡ viewIn c m
+  unfolding viewIn
+  same-view c e = subst (λ (t : ℕ). viewOf (isTable l) t (slotsOf l) ≡ viewOf (isTable m) t (slotsOf m)) (sym e) own-view
 
   -- whether any tenant's line is open
   module _ (tenant line : ℕ) where
     abbrev has : List ℕ → Bool
-    has t = isSome (getD (viewOf (isTable t) tenant (slotsOf t) .lines) line none)
+    has t = isSome (lineSeen (viewOf (isTable t) tenant (slotsOf t)) line)
 
     there : (t : List ℕ) → line < 4 → has t ≡ isOpen (pairOf tenant line) (slotsOf t)
-    unfolding viewOf ownLine pairOf
+    unfolding lineSeen viewOf ownLine pairOf
     there t h =
         ap isSome (getD-row (ownLine tenant (slotsOf t)) none 0 4 line h ∙ ap (ownLine tenant (slotsOf t)) (zero-add line))
         ∙ sym (open-line (pairOf tenant line) (omega arith) (slotsOf t))
 
     past : (t : List ℕ) → 4 ≤ line → has t ≡ false
-    unfolding viewOf isSome
+    unfolding lineSeen viewOf isSome
     past t h = ap isSome (getD-past (ownLine tenant (slotsOf t)) none 0 4 line h)
 
     same-there : has l ≡ has m
@@ -69,10 +70,13 @@ module _ (a : ℕ) (l m : List ℕ) (alike : Alike a l m) where
         lower line 4 (λ h. there l h ∙ alike .opened (pairOf tenant line) (omega arith) ∙ sym (there m h)) (λ h. past l h ∙ sym (past m h))
 
     pub same-opening : (number (opening tenant line) l ≡ number (opening tenant line) m) × (stepOf (opening tenant line) l .act ≡ stepOf (opening tenant line) m .act)
-    unfolding stepOf step tenantOf viewOf
+    unfolding stepOf step viewIn tenantOf viewOf refusals isOpenAlready isNotOpen isFull isEarly eventRefusals
     same-opening =
-        (λ i. refusal ((1 when not (same-sound i)) ∷ (2 when isNoPair tenant line) ∷ (4 when same-there i) ∷ (6 when not (same-free i)) ∷ []), refl)
+        let c = opening tenant line in
+        (λ i. refusal ((1 when not (same-sound i)) ∷ (2 when isNoPair c) ∷ (3 when isShort c) ∷ (4 when same-there i) ∷ (5 when false) ∷ (6 when not (same-free i)) ∷ (7 when false) ∷ []), refl)
 
     pub same-closing : (number (closing tenant line) l ≡ number (closing tenant line) m) × (stepOf (closing tenant line) l .act ≡ stepOf (closing tenant line) m .act)
-    unfolding stepOf step tenantOf viewOf
-    same-closing = (λ i. refusal ((1 when not (same-sound i)) ∷ (2 when isNoPair tenant line) ∷ (5 when not (same-there i)) ∷ []), refl)
+    unfolding stepOf step viewIn tenantOf viewOf refusals isOpenAlready isNotOpen isFull isEarly eventRefusals
+    same-closing =
+        let c = closing tenant line in
+        (λ i. refusal ((1 when not (same-sound i)) ∷ (2 when isNoPair c) ∷ (3 when isShort c) ∷ (4 when false) ∷ (5 when not (same-there i)) ∷ (6 when false) ∷ (7 when false) ∷ []), refl)

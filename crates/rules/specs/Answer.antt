@@ -90,6 +90,12 @@ eventRoom (child-made spi session) = 0
 eventRoom (child-deleted spi) = 0
 eventRoom ike-delete = 0
 
+unfoldable pub roomOf : Call → ℕ
+roomOf (opening tenant line) = 0
+roomOf (closing tenant line) = 0
+roomOf (listing tenant room) = room
+roomOf (timed tenant line time e) = eventRoom e
+
 -- a refused call returns only its number: the numbers 0, the part empty, the buffer zeros; open and close have no numbers
 unfoldable pub refused : ℕ → Call → Answer
 refused n (opening tenant line) = record { refusal = n; numbers = []; part = []; buffer = [] }

@@ -1,10 +1,10 @@
 -- What is claimed of `run`, for every call, table and history; the function `claims` promises it.
 use Prim.Native.Nat.{ℕ, suc, _≤_, _<_}
-use mathlib.Core.Bool.{true, false, cond}
+use mathlib.Core.Bool.{Bool, true, false, cond, not, _||_}
 use mathlib.Core.List.{List, [], _∷_, _++_, map}
 use mathlib.Core.Option.{Option, none, some}
 use mathlib.Core.Path.{_≡_}
-use lib.Dec.{eqb}
+use lib.Dec.{eqb, ltb}
 use lib.ListN.{getD, length, set}
 use Rattle.octets.specs.Laws.{below}
 use Rattle.octets.specs.Part.{padded, zeros}
@@ -25,8 +25,8 @@ use Rattle.selection.specs.Stops.{Ends, Exactly, addresses, countryReached, sta
 use Rattle.table.specs.Slots.{isOpen, lineAt, slotsOf}
 use Rattle.table.specs.Table.{isTable, recordOf, slot, tableLength}
 use Rattle.rules.specs.After.{After, LiveBy, SureBy, ownRecord}
-use Rattle.rules.specs.Answer.{Answer, eventRoom, numbersOf}
-use Rattle.rules.specs.Call.{StartNumbers, Event, start, country, address, child-made, child-deleted, Call, opening, closing, listing, timed, factsOf, pairOf}
+use Rattle.rules.specs.Answer.{Answer, numbersOf, roomOf}
+use Rattle.rules.specs.Call.{StartNumbers, Event, start, country, address, child-made, child-deleted, Call, opening, closing, listing, timed, factsOf, pairOf, lastTime}
 use Rattle.rules.specs.Computed.{got, said}
 use Rattle.rules.specs.FormExamples as FormExamples
 use Rattle.rules.specs.Histories.{answersTo, isOctets, remaining, tableAfter}
@@ -37,7 +37,9 @@ use Rattle.rules.specs.Listing.{listFrom}
 use Rattle.rules.specs.PhaseExamples as PhaseExamples
 use Rattle.rules.specs.Phases.{factsIn}
 use Rattle.rules.specs.RefusalExamples as RefusalExamples
-use Rattle.rules.specs.Run.{Result, answerOf, fresh, ownLine, run, stepOf}
+use Rattle.rules.specs.Run.{Result, answerOf, run}
+use Rattle.rules.specs.Refusals.{hasNoRoom, isAllowed, isEarly, isFull, isHeldFull, isMalformed, isNoPair, isNotOpen, isOpenAlready, isOutOfRange, isShort, isSpiTaken, refusals}
+use Rattle.rules.specs.View.{View, fresh, lineFound, ownLine, viewIn}
 use Rattle.rules.specs.OnSlots.{runOn}
 use Rattle.rules.specs.SelectionExamples as SelectionExamples
 use Rattle.rules.specs.Starred as Starred
@@ -45,6 +47,60 @@ use Rattle.rules.specs.Starred as Starred
 -- the number that a call gives
 unfoldable pub numberGiven : Call → List ℕ → ℕ
 numberGiven c l = run c l .answer .refusal
+
+-- a time above the last one; open, close and listing carry no time
+unfoldable pub isPastLast : Call → Bool
+isPastLast (opening tenant line) = false
+isPastLast (closing tenant line) = false
+isPastLast (listing tenant room) = false
+isPastLast (timed tenant line time e) = ltb lastTime time
+
+-- a condition of a timed call's event and of the line as the call finds it; open, close and listing have no event
+unfoldable pub onLine : (Event → Line → Bool) → Call → View → Bool
+onLine p (opening tenant line) v = false
+onLine p (closing tenant line) v = false
+onLine p (listing tenant room) v = false
+onLine p (timed tenant line time e) v = p e (lineFound line time v)
+
+-- no row of document 01's table of refusal numbers applies
+pub record NoRow (c : Call) (v : View) : Type 0 where
+  pub row-1 : not (v .sound) ≡ false
+  pub row-2 : isNoPair c ≡ false
+  pub row-3 : isShort c ≡ false
+  pub row-4 : isOpenAlready c v ≡ false
+  pub row-5 : isNotOpen c v ≡ false
+  pub row-6 : isFull c v ≡ false
+  pub row-7 : isEarly c v ≡ false
+  pub row-8 : isPastLast c || onLine isOutOfRange c v ≡ false
+  pub row-9 : onLine (λ e x. isMalformed e) c v ≡ false
+  pub row-10 : onLine (λ e x. not (isAllowed e x)) c v ≡ false
+  pub row-11 : onLine isSpiTaken c v ≡ false
+  pub row-12 : onLine hasNoRoom c v ≡ false
+  pub row-13 : onLine isHeldFull c v ≡ false
+
+-- a number is given exactly where its row applies and no lower one does
+pub record GivenExactly (n : ℕ) (c : Call) (l : List ℕ) (row : Bool) : Type 0 where
+  -- where the number is given its row applies, and no lower number does
+  pub only-then : numberGiven c l ≡ n → row ≡ true
+  pub none-lower : numberGiven c l ≡ n → (m : ℕ) → m < n → Applies m (refusals c (viewIn c l)) → ⊥
+  -- where its row applies that number is given, or a lower one
+  pub always-then : row ≡ true → (1 ≤ numberGiven c l) × (numberGiven c l ≤ n)
+
+-- the table row by row
+pub record GivenRows (c : Call) (l : List ℕ) (v : View) : Type 0 where
+  pub given-1 : GivenExactly 1 c l (not (isTable l))
+  pub given-2 : GivenExactly 2 c l (isNoPair c)
+  pub given-3 : GivenExactly 3 c l (isShort c)
+  pub given-4 : GivenExactly 4 c l (isOpenAlready c v)
+  pub given-5 : GivenExactly 5 c l (isNotOpen c v)
+  pub given-6 : GivenExactly 6 c l (isFull c v)
+  pub given-7 : GivenExactly 7 c l (isEarly c v)
+  pub given-8 : GivenExactly 8 c l (isPastLast c || onLine isOutOfRange c v)
+  pub given-9 : GivenExactly 9 c l (onLine (λ e x. isMalformed e) c v)
+  pub given-10 : GivenExactly 10 c l (onLine (λ e x. not (isAllowed e x)) c v)
+  pub given-11 : GivenExactly 11 c l (onLine isSpiTaken c v)
+  pub given-12 : GivenExactly 12 c l (onLine hasNoRoom c v)
+  pub given-13 : GivenExactly 13 c l (onLine isHeldFull c v)
 
 -- a sound table of octets
 pub record Good (l : List ℕ) : Type 0 where
@@ -57,13 +113,6 @@ pub record Alike (a : ℕ) (l m : List ℕ) : Type 0 where
   pub right : Good m
   pub lines : (line : ℕ) → line < 4 → lineAt (pairOf a line) (slotsOf l) ≡ lineAt (pairOf a line) (slotsOf m)
   pub opened : (pair : ℕ) → 1 ≤ pair → isOpen pair (slotsOf l) ≡ isOpen pair (slotsOf m)
-
--- how many octets the answer buffer of a call has
-unfoldable pub roomOf : Call → ℕ
-roomOf (opening tenant line) = 0
-roomOf (closing tenant line) = 0
-roomOf (listing tenant room) = room
-roomOf (timed tenant line time e) = eventRoom e
 
 -- how many numbers the answer of a call has: twelve, none for open and close
 unfoldable pub countOf : Call → ℕ
@@ -95,11 +144,14 @@ pub record Timed (tenant line time : ℕ) (e : Event) (l : List ℕ) (x : Line) 
   pub accepted : numberGiven (timed tenant line time e) l ≡ 0
 
 pub record Claims : Type 0 where
-  -- the number given is the lowest whose condition holds, 0 exactly where none does; never above 13
-  pub refusal-lowest : (c : Call) (l : List ℕ) (n : ℕ) → Applies n (stepOf c l .refusals)
-      → Applies (numberGiven c l) (stepOf c l .refusals) × (numberGiven c l ≤ n)
-  pub refusal-none : (c : Call) (l : List ℕ) → ((n : ℕ) → Applies n (stepOf c l .refusals) → ⊥) → numberGiven c l ≡ 0
+  -- a call is accepted exactly where no row of the table of refusal numbers applies
+  pub accepted-exactly : (c : Call) (l : List ℕ)
+      → (numberGiven c l ≡ 0 → NoRow c (viewIn c l)) × (NoRow c (viewIn c l) → numberGiven c l ≡ 0)
+  -- each number is given exactly where its row applies and no lower one does; never above 13
+  pub refused-exactly : (c : Call) (l : List ℕ) → GivenRows c l (viewIn c l)
   pub refusal-range : (c : Call) (l : List ℕ) → numberGiven c l ≤ 13
+  -- every call on a table that isn't sound is refused by 1
+  pub unsound-refused : (c : Call) (l : List ℕ) → isTable l ≡ false → numberGiven c l ≡ 1
   -- a refused call leaves the table as it was, every number 0, the part empty and the answer buffer zeros
   pub refusal-leaves : (c : Call) (l : List ℕ) → (numberGiven c l ≡ 0 → ⊥) → Left c l (run c l)
   -- the empty table is sound, and a sound table stays sound, whatever the call

@@ -29,6 +29,7 @@ use Rattle.selection.specs.Selection as Selection
 use Rattle.query.specs.Query as Query
 use Rattle.holds.specs.Holds as Holds
 use Rattle.children.specs.Children as Children
+use Rattle.children.specs.Laws as ChildLaws
 use Rattle.phase.specs.Stage.{isIn}
 use Rattle.phase.specs.Stage as Stage
 use Rattle.record.specs.Sound as Sound
@@ -39,6 +40,7 @@ use Rattle.rules.specs.Phases as RulesPhases
 use Rattle.rules.specs.Refusals as RulesRefusals
 use Rattle.rules.specs.Life as RulesLife
 use Rattle.rules.specs.Listing as RulesListing
+use Rattle.rules.specs.View as RulesView
 use Rattle.rules.specs.Run as RulesRun
 use Rattle.rules.specs.OnSlots as RulesOnSlots
 use Rattle.octets.specs.Row.{joined}
@@ -70,8 +72,9 @@ unfolding empty slotsOn
     Packet.code Packet.identifier Packet.lengthField Packet.typeField Packet.vendor Packet.vendorType Packet.message Packet.isSuccess
     Packet.isExpanded Packet.isMessage Packet.fits Packet.isNas Packet.isParameters Packet.isNasRequest Packet.nasPlace
     Packet.isNasResponse Packet.readPacket Packet.nasOf
-    Response.header Response.block Response.response
-    Address.isVersion Address.versionOf Address.widthOf Address.numberOf Address.addressOf Address.sameAddress Address.stands Address.addressIn Address.permitted
+    Response.header Response.block Response.response Response.lentOutOfRange
+    Address.isVersion Address.versionOf Address.widthOf Address.numberOf Address.addressOf Address.sameAddress Address.stands Address.addressIn
+    Address.permitted
     Pieces.before Pieces.pieces
     Field.plmnFrom Field.plmnOf Field.plain Field.priorityOf Field.isNameCharacter Field.isName
     Entry.homeEntry Entry.barEntry Entry.plmnEntry Entry.beforeName Entry.nameEntry Entry.addressEntry Entry.versionEntry Entry.nodeEntry
@@ -92,23 +95,26 @@ unfolding empty slotsOn
     Selection.countryReply
     Query.built Query.asked
     Holds.endAfter Holds.endsAfter
-    Children.isSpi Children.hasSpi
+    Children.isSpi Children.hasSpi Children.childFits ChildLaws.childStorable
     Sound.chosen
     TableSlots.pairIn TableSlots.isOf TableSlots.isOpen TableSlots.slotLine TableSlots.lineAt TableSlots.replaced
     RulesCall.tenantOf RulesCall.pairOf RulesCall.startNumbersFit RulesCall.placeOf RulesCall.registeredOf RulesCall.factsOf
-    RulesAnswer.high RulesAnswer.low RulesAnswer.twelve RulesAnswer.numbersOf RulesAnswer.eventRoom RulesAnswer.refused
+    RulesAnswer.high RulesAnswer.low RulesAnswer.twelve RulesAnswer.numbersOf RulesAnswer.eventRoom RulesAnswer.roomOf RulesAnswer.refused
     Stage.isIn RulesPhases.underway RulesPhases.factsIn RulesPhases.turnIn RulesPhases.isFirst RulesPhases.owed
     RulesPhases.lastReply
-    RulesRefusals.isLong RulesRefusals.isMalformed RulesRefusals.isHomeAbroad RulesRefusals.waitsHomeAbroad
-    RulesRefusals.badNetworks RulesRefusals.badReply RulesRefusals.badChild RulesRefusals.isTakenApart RulesRefusals.isNumber
-    RulesRefusals.isDue RulesRefusals.unless RulesRefusals.refusalsOf
+    RulesView.ownLine RulesView.viewOf RulesView.lineSeen RulesView.fresh RulesView.lineOr RulesView.lineFound
+    RulesRefusals.isAboveLast RulesRefusals.isNoPair RulesRefusals.leastEventRoom RulesRefusals.leastRoom RulesRefusals.isShort
+    RulesRefusals.isOpenAlready RulesRefusals.isNotOpen RulesRefusals.isFull RulesRefusals.isEarly
+    RulesRefusals.isLong RulesRefusals.isHomeAbroad RulesRefusals.waitsHomeAbroad RulesRefusals.badNetworks RulesRefusals.lacksParameters
+    RulesRefusals.isChild RulesRefusals.isOutOfRange RulesRefusals.isTakenApart RulesRefusals.isMalformed RulesRefusals.isNumber RulesRefusals.isDue
+    RulesRefusals.isAllowed RulesRefusals.isSpiTaken RulesRefusals.hasNoRoom RulesRefusals.isHeldFull
+    RulesRefusals.refusalsOf RulesRefusals.eventRefusals RulesRefusals.refusals
     RulesLife.current RulesLife.inPhase RulesLife.goes RulesLife.onward RulesLife.keeps RulesLife.gatewayFound RulesLife.nameAsked
     RulesLife.decided RulesLife.started RulesLife.countryAnswered RulesLife.addressAnswered RulesLife.packetTaken RulesLife.replied RulesLife.finished
     RulesLife.ended RulesLife.timerHold RulesLife.chosenHold RulesLife.congested RulesLife.withChildren RulesLife.isOther RulesLife.becomes
     RulesLife.outcome
     RulesListing.tab RulesListing.newline RulesListing.word RulesListing.addressText RulesListing.childText RulesListing.lineText RulesListing.listFrom
-    RulesRun.ownLine RulesRun.viewOf RulesRun.fresh RulesRun.lineOr RulesRun.isNoPair RulesRun.bare RulesRun.isShort RulesRun.answerOf
-    RulesRun.timedStep RulesRun.step
+    RulesRun.bare RulesRun.answerOf RulesRun.timedStep RulesRun.step
     RulesOnSlots.appliedOn RulesOnSlots.settledOn RulesOnSlots.runOn RulesOnSlots.answersOn
 slotsAfter h = slotsOn h empty
 

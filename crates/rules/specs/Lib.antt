@@ -2,8 +2,9 @@
 pub mod Call
 pub mod Answer
 pub mod Phases
-pub mod Refusals
 pub mod Life
+pub mod View
+pub mod Refusals
 pub mod Listing
 pub mod Run
 pub mod Histories

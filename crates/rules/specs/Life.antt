@@ -1,7 +1,7 @@
 -- What an accepted event does to its line (document 01, 'Life of a line', the column 'After and action').
 use Prim.Native.Nat.{ℕ, _+_}
 use mathlib.Core.Bool.{Bool, true, false, cond, not}
-use mathlib.Core.List.{List, [], _∷_, _++_, map}
+use mathlib.Core.List.{List, [], _∷_, _++_}
 use mathlib.Core.Option.{Option, none, some}
 use lib.Dec.{eqb}
 use lib.ListN.{length}
@@ -10,6 +10,7 @@ use Rattle.address.specs.Address.{heldAddresses}
 use Rattle.address.specs.declared.Address.{Address}
 use Rattle.address.specs.declared.End.the-variants.{At, Never}
 use Rattle.address.specs.declared.Hold.{Hold}
+use Rattle.children.specs.Children.{isSpi}
 use Rattle.children.specs.declared.Child.{Child}
 use Rattle.config.specs.Settings.{Settings, configOf}
 use Rattle.eap.specs.Packet.{nasOf, readPacket}
@@ -174,7 +175,7 @@ unfoldable pub withChildren : Line → List Child → Line
 withChildren x cs = record { time = x .time; phase = x .phase; holds = x .holds; children = cs }
 
 unfoldable pub isOther : ℕ → Child → Bool
-isOther spi c = not (eqb spi (c .spi))
+isOther spi c = not (isSpi spi c)
 
 -- a line and an action, with nothing returned or written
 unfoldable pub becomes : Line → Action → Outcome

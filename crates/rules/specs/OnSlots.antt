@@ -6,7 +6,9 @@ use Rattle.octets.specs.Refusal.{refusal}
 use Rattle.table.specs.Slots.{Slot, replaced}
 use Rattle.rules.specs.Answer.{Answer, refused}
 use Rattle.rules.specs.Call.{Call, tenantOf}
-use Rattle.rules.specs.Run.{Act, stay, replace, Step, step, viewOf}
+use Rattle.rules.specs.Refusals.{refusals}
+use Rattle.rules.specs.Run.{Act, stay, replace, Step, step}
+use Rattle.rules.specs.View.{viewOf}
 
 unfoldable pub appliedOn : Act → List Slot → List Slot
 appliedOn stay ss = ss
@@ -22,8 +24,8 @@ settledOn (suc n) c s ss = record { answer = refused (suc n) c; slots = ss }
 
 unfoldable pub runOn : Call → List Slot → Seen
 runOn c ss =
-    let s = step c (viewOf true (tenantOf c) ss) in
-    settledOn (refusal (s .refusals)) c s ss
+    let v = viewOf true (tenantOf c) ss in
+    settledOn (refusal (refusals c v)) c (step c v) ss
 
 -- all answers of a history
 unfoldable pub answersOn : List Call → List Slot → List Answer

@@ -14,7 +14,7 @@ use Rattle.record.specs.Laws.{lineStorable}
 use Rattle.record.specs.Octets.{lineFrom}
 use Rattle.record.specs.Sound.{lineSound, mostPairs}
 use Rattle.table.specs.Slots.{Slot, Free, Used, isOf, isOpen, lineAt, octetsOf, openPairs, pairIn, pairsOnce, put, replaced, slotLine, slotOctets, slotsOf}
-use Rattle.table.specs.Table.{isTable, pairAt, recordCount, recordOf, slot, tableLength}
+use Rattle.table.specs.Table.{isTable, pairAt, recordCount, recordOf, slot, tableLength, freePair}
 
 -- a record can hold a slot
 unfoldable pub slotFits : Slot → Bool
@@ -23,7 +23,7 @@ slotFits (Used pair x) = leb 1 pair && leb pair mostPairs && lineSound x && line
 
 -- a slot may stand in the place of a pair's: it is free, of the same pair, or of one that is not open
 unfoldable pub mayStand : ℕ → Slot → List Slot → Bool
-mayStand pair s ss = isOf 0 s || isOf pair s || not (isOpen (pairIn s) ss)
+mayStand pair s ss = isOf freePair s || isOf pair s || not (isOpen (pairIn s) ss)
 
 pub record Laws : Type 0 where
   -- zeros are a sound table with every slot free
@@ -36,7 +36,7 @@ pub record Laws : Type 0 where
   pub open-found : (l : List ℕ) (pair : ℕ) → isOpen pair (slotsOf l) ≡ ltb (recordOf l pair) recordCount
   pub line-found : (l : List ℕ) (pair : ℕ) → recordOf l pair < recordCount → 1 ≤ pair → lineAt pair (slotsOf l) ≡ some (lineFrom (slot l (recordOf l pair)))
   -- a slot is free exactly where fewer pairs than records are open
-  pub room : (l : List ℕ) → isTable l ≡ true → isOpen 0 (slotsOf l) ≡ ltb (openPairs (slotsOf l)) recordCount
+  pub room : (l : List ℕ) → isTable l ≡ true → isOpen freePair (slotsOf l) ≡ ltb (openPairs (slotsOf l)) recordCount
   -- the octets of a sound table are its slots written back
   pub written-back : (l : List ℕ) → allOf (below 256) l ≡ true → isTable l ≡ true → octetsOf (slotsOf l) ≡ l
   -- a slot that is put stands in its record, zeros where it is free; every other record has its octets

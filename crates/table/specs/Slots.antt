@@ -12,7 +12,7 @@ use Rattle.octets.specs.Search.{anyOf, count, distinct}
 use Rattle.record.specs.Line.{Line}
 use Rattle.record.specs.Octets.{lineFrom, recordLength, recordOctets}
 use Rattle.record.specs.Sound.{mostPairs}
-use Rattle.table.specs.Table.{recordCount, recordOf, slot}
+use Rattle.table.specs.Table.{recordCount, recordOf, slot, freePair}
 
 -- a record as the rules see it: free, or an open pair with its line
 pub data Slot : Type 0 where
@@ -21,7 +21,7 @@ pub data Slot : Type 0 where
 
 -- the slot in a record's octets, and back
 unfoldable pub slotFrom : List ℕ → Slot
-slotFrom s = cond (eqb (field s 0 1) 0) Free (Used (field s 0 1) (lineFrom s))
+slotFrom s = cond (eqb (field s 0 1) freePair) Free (Used (field s 0 1) (lineFrom s))
 
 unfoldable pub slotOctets : Slot → List ℕ
 slotOctets Free = zeros recordLength
@@ -37,15 +37,15 @@ slotsOf l = row (slotAt l) 0 recordCount
 unfoldable pub octetsOf : List Slot → List ℕ
 octetsOf ss = joined slotOctets ss
 
--- the number of a slot's pair, 0 where it is free
+-- the number of a slot's pair, or that of a free record
 unfoldable pub pairIn : Slot → ℕ
-pairIn Free = 0
+pairIn Free = freePair
 pairIn (Used pair x) = pair
 
 unfoldable pub isOf : ℕ → Slot → Bool
 isOf pair s = eqb (pairIn s) pair
 
--- a pair is open; of the pair 0, a slot is free
+-- a pair is open; of the free pair, a slot is free
 unfoldable pub isOpen : ℕ → List Slot → Bool
 isOpen pair ss = anyOf (isOf pair) ss
 

@@ -17,6 +17,10 @@ recordCount = 32
 abbrev pub tableLength : ℕ
 tableLength = recordCount * recordLength
 
+-- the number that a free record has in the place of a pair
+abbrev pub freePair : ℕ
+freePair = 0
+
 -- the octets of the record with a number
 unfoldable pub slot : List ℕ → ℕ → List ℕ
 slot l i = part l (recordLength * i) recordLength
@@ -25,7 +29,7 @@ slot l i = part l (recordLength * i) recordLength
 unfoldable pub slotSound : List ℕ → ℕ → Bool
 slotSound l i = zerosAt l (recordLength * i) recordLength || isRecord (slot l i)
 
--- the number of a record's pair, 0 where it is free
+-- the number of a record's pair, or that of a free record
 unfoldable pub pairAt : List ℕ → ℕ → ℕ
 pairAt l i = field l (recordLength * i) 1
 
@@ -37,7 +41,7 @@ lacksPair l pair i = not (hasPair l pair i)
 
 -- no pair twice: a record is free, or none before it has its pair
 unfoldable pub pairOnce : List ℕ → ℕ → Bool
-pairOnce l i = eqb (pairAt l i) 0 || all i (lacksPair l (pairAt l i))
+pairOnce l i = eqb (pairAt l i) freePair || all i (lacksPair l (pairAt l i))
 
 -- a sound table: right length, every record free or sound, no pair twice
 unfoldable pub isTable : List ℕ → Bool

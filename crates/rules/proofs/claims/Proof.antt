@@ -13,7 +13,7 @@ use Rattle.rules.proofs.Authenticated.{live-authenticated, sure-succeed
 use Rattle.rules.proofs.Histories.{history-sound, history-sound-from}
 use Rattle.rules.proofs.Isolation.{empty-good, isolation, isolation-from}
 use Rattle.rules.proofs.Numbers.{answer-count}
-use Rattle.rules.proofs.Refused.{refusal-leaves, refusal-lowest, refusal-none, refusal-range}
+use Rattle.rules.proofs.Refused.{refusal-leaves, refusal-range, accepted-exactly, refused-exactly, unsound-refused}
 use Rattle.rules.proofs.Rooms.{answer-room}
 use Rattle.rules.proofs.Runs.{closed-zero, run-slots, run-sound, taken-over-clean, taken-over-listed}
 use Rattle.rules.proofs.Timed.{stops-address, stops-country, stops-start, timed-run}
@@ -24,9 +24,10 @@ use Rattle.rules.proofs.claims.Tie as tie
 
 returns : tie.Need-returns
 returns c = record {
-  refusal-lowest = refusal-lowest;
-  refusal-none = refusal-none;
+  accepted-exactly = accepted-exactly;
+  refused-exactly = refused-exactly;
   refusal-range = refusal-range;
+  unsound-refused = unsound-refused;
   refusal-leaves = refusal-leaves;
   empty-good = empty-good;
   run-sound = run-sound;
