@@ -26,6 +26,13 @@ unfoldable pub numberOf : Address → ℕ
 numberOf (V4 x) = x
 numberOf (V6 h l) = h * 2 ^ 64 + l
 
+-- its upper and its lower 64 bits; version 4 lies in the lower alone
+unfoldable pub high : Address → ℕ
+high a = numberOf a / 2 ^ 64
+
+unfoldable pub low : Address → ℕ
+low a = numberOf a % 2 ^ 64
+
 -- the address of a version that is a number
 unfoldable pub addressOf : ℕ → ℕ → Address
 addressOf v x = cond (eqb v 4) (V4 x) (V6 (x / 2 ^ 64) (x % 2 ^ 64))

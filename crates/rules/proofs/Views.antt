@@ -1,6 +1,6 @@
 -- Tables that are alike to a tenant: what its calls see of them, and what anybody's open or close sees.
 use Prim.Native.Nat.{ℕ, suc, _≤_, _<_}
-use mathlib.Core.Bool.{Bool, false, not}
+use mathlib.Core.Bool.{Bool, true, false, not}
 use mathlib.Core.List.{List, [], _∷_}
 use mathlib.Core.Option.{Option, none}
 use mathlib.Core.Path.{_≡_, refl, sym, ap, _∙_, subst}
@@ -14,7 +14,7 @@ use Rattle.octets.proofs.Search.{lower}
 use Rattle.octets.specs.Row.{isSome}
 use Rattle.record.specs.Line.{Line}
 use Rattle.table.specs.Slots.{isOpen, isTaken, openPairs, slotsOf}
-use Rattle.table.specs.Table.{isTable}
+use Rattle.table.specs.Table.{isTable, recordCount}
 use Rattle.table.proofs.Lookups.{open-line}
 use Rattle.table.proofs.Views.{room}
 use Rattle.rules.specs.Call.{Call, opening, closing, pairOf, tenantOf}
@@ -27,6 +27,11 @@ use Rattle.rules.proofs.Runs.{number}
 view-equal : {s t f g : Bool} {xs ys : List (Option Line)} → s ≡ t → f ≡ g → xs ≡ ys
     → _≡_ {A = View} (record { sound = s; free = f; lines = xs }) (record { sound = t; free = g; lines = ys })
 view-equal p q r = λ i. record { sound = p i; free = q i; lines = r i }
+
+-- a call sees a free record exactly where fewer pairs are open than there are records
+pub room-exactly : (c : Call) (l : List ℕ) → isTable l ≡ true → viewIn c l .free ≡ ltb (openPairs (slotsOf l)) recordCount
+unfolding viewIn viewOf
+room-exactly c l sound = room l sound
 
 module _ (a : ℕ) (l m : List ℕ) (alike : Alike a l m) where
   same-sound : isTable l ≡ isTable m

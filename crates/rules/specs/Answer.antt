@@ -2,9 +2,8 @@
 use Prim.Native.Nat.{ℕ}
 use mathlib.Core.List.{List, [], _∷_}
 use Rattle.octets.specs.Part.{zeros}
-use Rattle.address.specs.Address.{versionOf}
+use Rattle.address.specs.Address.{high, low, versionOf}
 use Rattle.address.specs.declared.Address.{Address}
-use Rattle.address.specs.declared.Address.the-variants.{V4, V6}
 use Rattle.rules.specs.Call.{Event, start, country, address, begin, init, eap, reply, final, error, congestion, give-up, child-made, child-deleted, ike-delete, Call, opening, closing, listing, timed}
 
 -- the refusal number or 0, the twelve numbers, the octets of the returned part, the answer buffer whole
@@ -41,15 +40,6 @@ pub data Action : Type 0 where
   error-up : ℕ → ℕ → Action
   -- so many octets of the listing are written
   listed : ℕ → Action
-
--- version 4 in the low half alone
-unfoldable pub high : Address → ℕ
-high (V4 x) = 0
-high (V6 h l) = h
-
-unfoldable pub low : Address → ℕ
-low (V4 x) = x
-low (V6 h l) = l
 
 unfoldable pub twelve : ℕ → ℕ → ℕ → ℕ → ℕ → ℕ → ℕ → ℕ → ℕ → ℕ → ℕ → ℕ → List ℕ
 twelve a b c d e f g h i j k l = a ∷ b ∷ c ∷ d ∷ e ∷ f ∷ g ∷ h ∷ i ∷ j ∷ k ∷ l ∷ []

@@ -107,7 +107,7 @@ lentOctets (timed tenant line time e) = eventOctets e
 
 -- the number of a pair (tenant, line) in its record
 unfoldable pub pairOf : ℕ → ℕ → ℕ
-pairOf tenant line = suc (4 * tenant + line)
+pairOf tenant line = suc (suc lastLine * tenant + line)
 
 -- MCC and MNC 0 to 999, local IP version 4 or 6, place one of three, a flag 0 or 1; a number that a call does not have is 0
 unfoldable pub startNumbersFit : StartNumbers → Bool

@@ -22,12 +22,13 @@ use Rattle.record.specs.Line.{Line}
 use Rattle.response.specs.Laws as Response
 use Rattle.selection.specs.Selection as Selection
 use Rattle.selection.specs.Stops.{Ends, Exactly, addresses, countryReached, startReached}
-use Rattle.table.specs.Slots.{isOpen, lineAt, slotsOf}
-use Rattle.table.specs.Table.{isTable, recordOf, slot, tableLength}
+use Rattle.table.specs.Slots.{isOpen, lineAt, slotsOf, openPairs}
+use Rattle.table.specs.Table.{isTable, recordOf, slot, tableLength, recordCount}
 use Rattle.rules.specs.After.{After, LiveBy, SureBy, ownRecord}
 use Rattle.rules.specs.Answer.{Answer, numbersOf, roomOf}
 use Rattle.rules.specs.Call.{StartNumbers, Event, start, country, address, child-made, child-deleted, Call, opening, closing, listing, timed, factsOf, pairOf, lastTime}
 use Rattle.rules.specs.Computed.{got, said}
+use Rattle.rules.specs.Computed as Computed
 use Rattle.rules.specs.FormExamples as FormExamples
 use Rattle.rules.specs.Histories.{answersTo, isOctets, remaining, tableAfter}
 use Rattle.rules.specs.HoldExamples as HoldExamples
@@ -150,6 +151,8 @@ pub record Claims : Type 0 where
   -- each number is given exactly where its row applies and no lower one does; never above 13
   pub refused-exactly : (c : Call) (l : List ℕ) → GivenRows c l (viewIn c l)
   pub refusal-range : (c : Call) (l : List ℕ) → numberGiven c l ≤ 13
+  -- a record is free exactly where fewer pairs are open than there are records
+  pub room-exactly : (c : Call) (l : List ℕ) → isTable l ≡ true → viewIn c l .free ≡ ltb (openPairs (slotsOf l)) recordCount
   -- every call on a table that isn't sound is refused by 1
   pub unsound-refused : (c : Call) (l : List ℕ) → isTable l ≡ false → numberGiven c l ≡ 1
   -- a refused call leaves the table as it was, every number 0, the part empty and the answer buffer zeros
@@ -237,5 +240,7 @@ pub record Claims : Type 0 where
   -- the same from any two tables that are alike to the tenant
   pub isolation-from : (a : ℕ) (g h : List Call) → allOf isOctets g ≡ true → allOf isOctets h ≡ true → remaining a g ≡ remaining a h
       → (l m : List ℕ) → Alike a l m → answersTo a g l ≡ answersTo a h m
+  -- the numbers that examples compute are the definitions' own
+  pub evaluated : (l : List ℕ) → Computed.evaluated l ≡ l
   -- document 01's starred examples
   pub starred : map Starred.got Starred.starred ≡ map Starred.said Starred.starred

@@ -73,7 +73,7 @@ unfolding empty slotsOn
     Packet.isExpanded Packet.isMessage Packet.fits Packet.isNas Packet.isParameters Packet.isNasRequest Packet.nasPlace
     Packet.isNasResponse Packet.readPacket Packet.nasOf
     Response.header Response.block Response.response Response.lentOutOfRange
-    Address.isVersion Address.versionOf Address.widthOf Address.numberOf Address.addressOf Address.sameAddress Address.stands Address.addressIn
+    Address.isVersion Address.versionOf Address.widthOf Address.numberOf Address.high Address.low Address.addressOf Address.sameAddress Address.stands Address.addressIn
     Address.permitted
     Pieces.before Pieces.pieces
     Field.plmnFrom Field.plmnOf Field.plain Field.priorityOf Field.isNameCharacter Field.isName
@@ -99,7 +99,7 @@ unfolding empty slotsOn
     Sound.chosen
     TableSlots.pairIn TableSlots.isOf TableSlots.isOpen TableSlots.slotLine TableSlots.lineAt TableSlots.replaced
     RulesCall.tenantOf RulesCall.pairOf RulesCall.startNumbersFit RulesCall.placeOf RulesCall.registeredOf RulesCall.factsOf
-    RulesAnswer.high RulesAnswer.low RulesAnswer.twelve RulesAnswer.numbersOf RulesAnswer.eventRoom RulesAnswer.roomOf RulesAnswer.refused
+    RulesAnswer.twelve RulesAnswer.numbersOf RulesAnswer.eventRoom RulesAnswer.roomOf RulesAnswer.refused
     Stage.isIn RulesPhases.underway RulesPhases.factsIn RulesPhases.turnIn RulesPhases.isFirst RulesPhases.owed
     RulesPhases.lastReply
     RulesView.ownLine RulesView.viewOf RulesView.lineSeen RulesView.fresh RulesView.lineOr RulesView.lineFound

@@ -4,14 +4,14 @@ use mathlib.Core.List.{List, [], _∷_, _++_, map}
 use mathlib.Core.Option.{Option, none, some}
 use mathlib.Core.Path.{_≡_, refl}
 use Rattle.octets.specs.Row.{joined}
-use Rattle.address.specs.Address.{versionOf}
+use Rattle.address.specs.Address.{high, low, versionOf}
 use Rattle.address.specs.declared.Address.the-variants.{V4, V6}
 use Rattle.address.specs.declared.End.the-variants.{At, Never}
 use Rattle.address.specs.declared.Hold.{Hold}
 use Rattle.holds.specs.Holds.{endNumber}
 use Rattle.record.specs.Line.{Line}
 use Rattle.table.specs.Slots.{lineAt}
-use Rattle.rules.specs.Answer.{Answer, nothing, stopped, chose, send-init, send-auth-request, released, high, low}
+use Rattle.rules.specs.Answer.{Answer, nothing, stopped, chose, send-init, send-auth-request, released}
 use Rattle.rules.specs.Call.{start, begin, init, error, congestion, give-up, Call, opening, closing, timed, pairOf}
 use Rattle.rules.specs.Cases.{acts, atHome, atHome6, congest, declines, done, startNumbers, node, node6, nodeAt, now, own, toAuth, toIdle, writes}
 use Rattle.rules.specs.Computed.{Example, evaluated, got, said, slotsAfter}

@@ -3,9 +3,9 @@ use Prim.Native.Nat.{ℕ}
 use Prim.Native.String.{String}
 use mathlib.Core.List.{List, [], _∷_, _++_, map}
 use mathlib.Core.Path.{_≡_, refl}
-use Rattle.address.specs.Address.{versionOf}
+use Rattle.address.specs.Address.{high, low, numberOf, versionOf}
 use Rattle.address.specs.declared.Address.the-variants.{V4, V6}
-use Rattle.rules.specs.Answer.{Action, nothing, stopped, ask-country, ask-text, ask-built, chose, send-init, send-auth-request, ask-nas, hand-up, send-response, send-auth, live, released, error-up, listed, high, low, numbersOf, twelve}
+use Rattle.rules.specs.Answer.{Action, nothing, stopped, ask-country, ask-text, ask-built, chose, send-init, send-auth-request, ask-nas, hand-up, send-response, send-auth, live, released, error-up, listed, numbersOf, twelve}
 use Rattle.rules.specs.Call.{Event, start, begin, init, eap, reply, final, error, congestion, give-up, child-made, child-deleted, ike-delete, Call, opening, closing, listing}
 use Rattle.rules.specs.Cases.{acts, atHome, atHome6, declined, done, firstReply, lists, nas, nasPacket, node, node6, now, own, parameters, shown, startPacket, success, toAnswered, toAuth, toChosen, toCountry, toFirst, toIdle, toInit, toLive, toName, toOwed, toSure, writes, laterReply}
 use Rattle.rules.specs.Computed.{Example, got, said}
@@ -153,5 +153,5 @@ actionNumbers =
     ∷ []
 
 pub actions-computed : map numbersOf actions ≡ actionNumbers
-unfolding actions actionNumbers numbersOf twelve high low versionOf
+unfolding actions actionNumbers numbersOf twelve high low numberOf versionOf
 actions-computed = refl

@@ -4,24 +4,17 @@ use mathlib.Core.List.{List, [], _∷_, _++_, map}
 use mathlib.Core.Path.{_≡_, refl}
 use Rattle.octets.specs.Part.{padded, zeros}
 use Rattle.octets.specs.Row.{joined}
-use Rattle.address.specs.Address.{versionOf}
 use Rattle.address.specs.declared.Address.{Address}
 use Rattle.address.specs.declared.Address.the-variants.{V4, V6}
 use Rattle.addresses.specs.Addresses.{addressOctets}
-use Rattle.eap.specs.Packet.{readPacket}
-use Rattle.eap.specs.declared.Packet.{Packet}
-use Rattle.eap.specs.declared.Packet.the-variants.{Start, NasRequest, Success, NasResponse, Stop, Other}
-use Rattle.gateway.specs.Gateway.{choose}
-use Rattle.gateway.specs.declared.Found.{Found}
-use Rattle.gateway.specs.declared.Found.the-variants.{Chosen, Nothing}
+use Rattle.eap.specs.Packet.{packetNumbers, readPacket}
+use Rattle.gateway.specs.Gateway.{choose, foundNumbers}
 use Rattle.lists.specs.Lists.{addressesIn}
 use Rattle.network.specs.Name.{operatorName, visitedName}
 use Rattle.response.specs.Response.{response}
 use Rattle.text.specs.Text.{text}
-use Rattle.timer.specs.Timer.{timerOf}
-use Rattle.timer.specs.declared.Timer.{Timer}
-use Rattle.timer.specs.declared.Timer.the-variants.{None, Seconds, Deactivated}
-use Rattle.rules.specs.Answer.{Answer, high, low, twelve}
+use Rattle.timer.specs.Timer.{timerNumbers, timerOf}
+use Rattle.rules.specs.Answer.{Answer, twelve}
 use Rattle.rules.specs.Call.{start, address, eap, Call, listing}
 use Rattle.rules.specs.Cases.{atHome, congest, named, node, now, own, shown, toAnswered, toFirst, toIdle, toName}
 use Rattle.rules.specs.Computed.{answersAfter, counted, evaluated}
@@ -30,26 +23,6 @@ use Rattle.rules.specs.Computed.{answersAfter, counted, evaluated}
 pub record Example : Type 0 where
   pub gives : List ℕ
   pub says : List ℕ
-
--- a timer: 0 none, 1 and its seconds, 2 deactivated
-unfoldable pub timerNumbers : Timer → List ℕ
-timerNumbers None = 0 ∷ []
-timerNumbers (Seconds n) = 1 ∷ n ∷ []
-timerNumbers Deactivated = 2 ∷ []
-
--- the address that is chosen, or 0, and how many were passed over
-unfoldable pub foundNumbers : Found → List ℕ
-foundNumbers (Chosen a k) = versionOf a ∷ high a ∷ low a ∷ k ∷ []
-foundNumbers (Nothing k) = 0 ∷ k ∷ []
-
--- a packet: 1 Start, 2 NAS request, 3 Success, with its identifier; 0 any other
-unfoldable pub packetNumbers : Packet → List ℕ
-packetNumbers (Start i) = 1 ∷ i ∷ []
-packetNumbers (NasRequest i at n) = 2 ∷ i ∷ []
-packetNumbers (Success i) = 3 ∷ i ∷ []
-packetNumbers (NasResponse i p m at n) = 0 ∷ []
-packetNumbers (Stop i) = 0 ∷ []
-packetNumbers Other = 0 ∷ []
 
 -- the refusal number and the twelve numbers
 unfoldable pub gist : Answer → List ℕ
@@ -76,13 +49,13 @@ unfolding atHome buffers congest counted foundNumbers gists named node now own p
     toIdle toName twelve
 starred =
     -- timer 61 hex: 2 s
-    record { gives = timerNumbers (timerOf 0x61); says = 1 ∷ 2 ∷ [] }
+    record { gives = timerNumbers (timerOf 0x61); says = padded 6 (1 ∷ 2 ∷ []) }
     -- 00: none
-    ∷ record { gives = timerNumbers (timerOf 0x00); says = 0 ∷ [] }
+    ∷ record { gives = timerNumbers (timerOf 0x00); says = zeros 6 }
     -- E0: deactivated
-    ∷ record { gives = timerNumbers (timerOf 0xE0); says = 2 ∷ [] }
+    ∷ record { gives = timerNumbers (timerOf 0xE0); says = padded 6 (2 ∷ []) }
     -- DF: 35,712,000 s
-    ∷ record { gives = timerNumbers (timerOf 0xDF); says = 1 ∷ 35_712_000 ∷ [] }
+    ∷ record { gives = timerNumbers (timerOf 0xDF); says = padded 6 (1 ∷ 35_712_000 ∷ []) }
     -- congestion 61 at time 100: held at 101, so that a `node` address stops with 4, 1 passed over; free at 102
     ∷ record {
       gives = gists (toIdle ++ congest 100 0xc0000207 0x61) (own 101 (start atHome node 64) ∷ own 102 (start atHome node 64) ∷ []);
@@ -98,7 +71,7 @@ starred =
     -- addresses v6, held v4, 192.0.2.7 with local v4: the third, 2 passed over
     ∷ record {
       gives = foundNumbers (choose 4 (V4 0xc0000201 ∷ []) (addressesIn (joined addressOctets three)));
-      says = 4 ∷ 0 ∷ 0xc0000207 ∷ 2 ∷ [];
+      says = 0 ∷ 2 ∷ 4 ∷ 0 ∷ 0xc0000207 ∷ [];
     }
     ∷ record {
       gives =
@@ -106,13 +79,13 @@ starred =
       says = 0 ∷ twelve 4 0 2 0 0 0 4 0 0xc0000207 0 0 0;
     }
     -- empty: stop 4, 0
-    ∷ record { gives = foundNumbers (choose 4 (V4 0xc0000201 ∷ []) (addressesIn [])); says = 0 ∷ 0 ∷ [] }
+    ∷ record { gives = foundNumbers (choose 4 (V4 0xc0000201 ∷ []) (addressesIn [])); says = 4 ∷ 0 ∷ 0 ∷ 0 ∷ 0 ∷ [] }
     ∷ record { gives = gists toName (now (address []) ∷ []); says = 0 ∷ twelve 1 4 0 0 0 0 0 0 0 0 0 0 }
     -- Start, identifier 7
     ∷ record {
       gives =
           packetNumbers (readPacket (0x01 ∷ 0x07 ∷ 0x00 ∷ 0x0E ∷ 0xFE ∷ 0x00 ∷ 0x28 ∷ 0xAF ∷ 0x00 ∷ 0x00 ∷ 0x00 ∷ 0x03 ∷ 0x01 ∷ 0x00 ∷ []));
-      says = 1 ∷ 7 ∷ [];
+      says = padded 6 (1 ∷ 7 ∷ []);
     }
     -- later reply 7, no AN, NAS 7E
     ∷ record {

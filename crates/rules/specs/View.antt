@@ -1,5 +1,5 @@
 -- What a call sees of the table: whether it is sound, whether a record is free, and its own tenant's lines.
-use Prim.Native.Nat.{ℕ}
+use Prim.Native.Nat.{ℕ, suc}
 use mathlib.Core.Bool.{Bool}
 use mathlib.Core.List.{List, []}
 use mathlib.Core.Option.{Option, none, some}
@@ -9,7 +9,7 @@ use Rattle.phase.specs.declared.Phase.the-variants.{Idle}
 use Rattle.record.specs.Line.{Line}
 use Rattle.table.specs.Slots.{Slot, isOpen, lineAt, slotsOf}
 use Rattle.table.specs.Table.{freePair, isTable}
-use Rattle.rules.specs.Call.{Call, pairOf, tenantOf}
+use Rattle.rules.specs.Call.{Call, pairOf, tenantOf, lastLine}
 use Rattle.rules.specs.Life.{current}
 
 -- the lines stand by their numbers
@@ -22,7 +22,7 @@ unfoldable pub ownLine : ℕ → List Slot → ℕ → Option Line
 ownLine tenant ss line = lineAt (pairOf tenant line) ss
 
 unfoldable pub viewOf : Bool → ℕ → List Slot → View
-viewOf sound tenant ss = record { sound = sound; free = isOpen freePair ss; lines = row (ownLine tenant ss) 0 4 }
+viewOf sound tenant ss = record { sound = sound; free = isOpen freePair ss; lines = row (ownLine tenant ss) 0 (suc lastLine) }
 
 unfoldable pub viewIn : Call → List ℕ → View
 viewIn c l = viewOf (isTable l) (tenantOf c) (slotsOf l)

@@ -1,6 +1,7 @@
 -- `rules::claims` meets its contract: each claim is proved below proofs/.
 use Rattle.response.proofs.Round.{write-read, read-write}
 use Rattle.response.proofs.Writing.{accepted, response-fits}
+use Rattle.rules.specs.Computed.{evaluated-is}
 use Rattle.rules.specs.FormExamples.{forms-computed}
 use Rattle.rules.specs.HoldExamples.{holds-computed, kept-computed}
 use Rattle.rules.specs.LifeExamples.{actions-computed, lives-computed}
@@ -19,6 +20,7 @@ use Rattle.rules.proofs.Runs.{closed-zero, run-slots, run-sound, taken-
 use Rattle.rules.proofs.Timed.{stops-address, stops-country, stops-start, timed-run}
 use Rattle.rules.proofs.Tunnels.{tunnels-deleted, tunnels-live, tunnels-made}
 use Rattle.rules.proofs.Untouched.{length-kept, listing-leaves, others-untouched}
+use Rattle.rules.proofs.Views.{room-exactly}
 use Rattle.rules.proofs.claims.Statement.{statement}
 use Rattle.rules.proofs.claims.Tie as tie
 
@@ -27,6 +29,7 @@ returns c = record {
   accepted-exactly = accepted-exactly;
   refused-exactly = refused-exactly;
   refusal-range = refusal-range;
+  room-exactly = room-exactly;
   unsound-refused = unsound-refused;
   refusal-leaves = refusal-leaves;
   empty-good = empty-good;
@@ -68,6 +71,7 @@ returns c = record {
   kept = kept-computed;
   isolation = isolation;
   isolation-from = isolation-from;
+  evaluated = evaluated-is;
   starred = computed;
 }
 

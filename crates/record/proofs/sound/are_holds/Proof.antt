@@ -5,7 +5,6 @@ use lib.ListN.{length, take}
 use lib.Seq.{length-take-le}
 use borrow.Author.Tests.{not-true, not-false}
 use borrow.Author.Needs.{needs}
-use Rattle.address.specs.Address.{heldAddresses}
 use Rattle.record.proofs.Sounds.{no-room, held-twice, chosen-held, by-ends}
 use Rattle.record.proofs.sound.are_holds.Statement.{statement}
 use Rattle.record.proofs.sound.are_holds.Tie as tie

@@ -1,6 +1,5 @@
 -- `record::sound::has_room` meets its contract: an idle line may have all eight.
-use mathlib.Core.Bool.{true, false}
-use mathlib.Core.Path.{_≡_, sym}
+use mathlib.Core.Path.{sym}
 use borrow.Author.Needs.{needs}
 use Rattle.phase.specs.Stage as Stage
 use Rattle.phase.proofs.Stages.{is-in, not-in}
