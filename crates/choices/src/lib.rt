@@ -7,7 +7,7 @@ use address::Hold;
 use answers::put_number;
 use answers::put_text;
 use config::Config;
-use config::MAX_ENTRIES;
+use config::MOST_LISTED;
 use config::Node;
 use config::Parsed;
 use config::parse::parse;
@@ -28,7 +28,7 @@ use selection::country;
 use selection::is_home_abroad;
 use selection::start;
 ghost use Prim.Native.Nat.{_≤_};
-ghost use Rattle.config.specs.Settings.{maxEntries, Counted};
+ghost use Rattle.config.specs.Settings.{mostListed, Counted};
 ghost use Rattle.query.specs.Query.{TextWithin};
 
 // Writes the numbers of a PLMN.
@@ -38,8 +38,8 @@ pub fn put_plmn(p: Plmn) {
 }
 
 // Writes the first n PLMNs of a list, with their priorities where these count.
-fn put_list(list: [Preferred; MAX_ENTRIES], n: usize, ranked: bool)
-    requires { ⌜ n ≤ maxEntries ⌝ }
+fn put_list(list: [Preferred; MOST_LISTED], n: usize, ranked: bool)
+    requires { ⌜ n ≤ mostListed ⌝ }
 {
     let mut i = 0;
     while i < n {

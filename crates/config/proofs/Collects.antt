@@ -15,7 +15,7 @@ use Rattle.network.specs.Plmn.{among, samePlmn}
 use Rattle.network.specs.declared.Plmn.{Plmn}
 use Rattle.config.specs.Branch.{SectionIs}
 use Rattle.config.specs.Lines.{entriesFrom}
-use Rattle.config.specs.Settings.{plmnIn, maxEntries, accepted, asListed, section}
+use Rattle.config.specs.Settings.{plmnIn, mostListed, accepted, asListed, section}
 use Rattle.config.specs.declared.list.Kind.{Kind}
 use Rattle.config.specs.declared.list.Section.{Section}
 
@@ -47,21 +47,21 @@ module _ (S d X : List Preferred) (split : S ≡ d ++ X) (new : distinct samePlm
   pub all-collected : X ≡ [] → S ≡ d
   all-collected e = split ∙ ap (λ (x : List Preferred). d ++ x) e ∙ append-nil d
 
-  pub all-accepted : X ≡ [] → length d ≤ maxEntries → true ≡ accepted (map plmnIn S)
+  pub all-accepted : X ≡ [] → length d ≤ mostListed → true ≡ accepted (map plmnIn S)
   unfolding accepted
   all-accepted e h =
       let none : length X ≡ 0 = ap length e in
-      let few : length (map plmnIn S) ≤ maxEntries = omega (arith, size) in
-      sym (and-true (leb (length (map plmnIn S)) maxEntries) (distinct samePlmn (map plmnIn S)) (le-leb (length (map plmnIn S)) maxEntries few) (ap (λ (x : List Preferred). distinct samePlmn (map plmnIn x)) (all-collected e) ∙ new))
+      let few : length (map plmnIn S) ≤ mostListed = omega (arith, size) in
+      sym (and-true (leb (length (map plmnIn S)) mostListed) (distinct samePlmn (map plmnIn S)) (le-leb (length (map plmnIn S)) mostListed few) (ap (λ (x : List Preferred). distinct samePlmn (map plmnIn x)) (all-collected e) ∙ new))
 
   module _ (p : Preferred) (Y : List Preferred) (more : X ≡ p ∷ Y) where
     -- one more than the most is left
-    pub too-many : length d ≡ maxEntries → false ≡ accepted (map plmnIn S)
+    pub too-many : length d ≡ mostListed → false ≡ accepted (map plmnIn S)
     unfolding accepted
     too-many h =
         let one : length X ≡ suc (length Y) = ap length more in
-        let many : maxEntries < length (map plmnIn S) = omega (arith, size) in
-        sym (rw (lt-leb (length (map plmnIn S)) maxEntries many))
+        let many : mostListed < length (map plmnIn S) = omega (arith, size) in
+        sym (rw (lt-leb (length (map plmnIn S)) mostListed many))
 
     -- the next one stands among those collected
     pub repeated : among (plmnIn p) (map plmnIn d) ≡ true → false ≡ accepted (map plmnIn S)
@@ -70,7 +70,7 @@ module _ (S d X : List Preferred) (split : S ≡ d ++ X) (new : distinct samePlm
         let twice : distinct samePlmn (map plmnIn S) ≡ false =
         ap (λ (x : List Preferred). distinct samePlmn (map plmnIn x)) (split ∙ ap (λ (x : List Preferred). d ++ x) more)
         ∙ ap (distinct samePlmn) (map-append plmnIn d (p ∷ Y)) ∙ distinct-repeats samePlmn same-turned (map plmnIn d) (plmnIn p) (map plmnIn Y) h in
-        sym (and-false (leb (length (map plmnIn S)) maxEntries) (distinct samePlmn (map plmnIn S)) twice)
+        sym (and-false (leb (length (map plmnIn S)) mostListed) (distinct samePlmn (map plmnIn S)) twice)
 
     -- the next one is collected too
     pub one-more : S ≡ (d ++ p ∷ []) ++ Y

@@ -11,7 +11,7 @@ use Rattle.entry.specs.declared.Entry.the-variants.{Home, Name, Preference, Bar
 use Rattle.entry.specs.declared.Entry.the-variants as Entry
 use Rattle.entry.specs.declared.field.Preferred.{Preferred}
 use Rattle.config.specs.Lines.{entriesFrom, lineEnd}
-use Rattle.config.specs.Settings.{accepted, afterNode, asListed, firstNode, maxEntries, plmnIn, rest, section, NodeWithin, Within}
+use Rattle.config.specs.Settings.{accepted, afterNode, asListed, firstNode, mostListed, plmnIn, rest, section, NodeWithin, Within}
 use Rattle.config.specs.declared.Config.{Config}
 use Rattle.config.specs.declared.Node.{Node}
 use Rattle.config.specs.declared.line.TextLine.{TextLine}
@@ -59,7 +59,7 @@ pub record SectionIs (kind : Kind) (text : List ℕ) (at : ℕ) (r : Section) : 
   pub ok-is : r .ok ≡ accepted (map plmnIn (section (asListed kind) (entriesFrom text at)))
   pub list-is : r .ok ≡ true → section (asListed kind) (entriesFrom text at) ≡ take (r .count) (r .list)
   pub rest-is : r .ok ≡ true → rest (asListed kind) (entriesFrom text at) ≡ entriesFrom text (r .next)
-  pub count-within : r .count ≤ maxEntries
+  pub count-within : r .count ≤ mostListed
   pub next-within : r .next ≤ length text
 
 -- where the entries behind `node` begin

@@ -42,12 +42,12 @@ settingsIn c = record {
 }
 
 -- the most entries of one kind, `plmn` or `bar`, that a text has
-abbrev pub maxEntries : ℕ
-maxEntries = 16
+abbrev pub mostListed : ℕ
+mostListed = 16
 
 -- at most so many entries of a kind, and no PLMN twice
 unfoldable pub accepted : List Plmn → Bool
-accepted ps = leb (length ps) maxEntries && distinct samePlmn ps
+accepted ps = leb (length ps) mostListed && distinct samePlmn ps
 
 -- the PLMN of `home`
 unfoldable pub asHome : Entry → Option Plmn
@@ -159,8 +159,8 @@ NodeWithin text (Node.Address a) = Unit {0}
 
 -- a configuration whose entries lie in its arrays
 pub record Counted (c : Config) : Type 0 where
-  pub plmns-within : c .«plmn_count» ≤ maxEntries
-  pub bars-within : c .«bar_count» ≤ maxEntries
+  pub plmns-within : c .«plmn_count» ≤ mostListed
+  pub bars-within : c .«bar_count» ≤ mostListed
 
 -- what is kept of a text lies in the arrays and in the text
 pub record Within (text : List ℕ) (c : Config) : Type 0 where

@@ -8,7 +8,7 @@ use entry::field::Preferred;
 use network::Plmn;
 
 // The most entries of one kind, `plmn` or `bar`, that a text has.
-pub const MAX_ENTRIES: usize = 16;
+pub const MOST_LISTED: usize = 16;
 
 // Where the `node` entry sends a line: a name that stands in the text, an address, or nowhere.
 pub enum Node {
@@ -21,9 +21,9 @@ pub enum Node {
 pub struct Config {
     pub home: Plmn,
     pub node: Node,
-    pub plmns: [Preferred; MAX_ENTRIES],
+    pub plmns: [Preferred; MOST_LISTED],
     pub plmn_count: usize,
-    pub bars: [Preferred; MAX_ENTRIES],
+    pub bars: [Preferred; MOST_LISTED],
     pub bar_count: usize,
 }
 

@@ -1,5 +1,5 @@
 // Lists of PLMNs in the configuration text.
-use crate::MAX_ENTRIES;
+use crate::MOST_LISTED;
 use crate::line::TextLine;
 use crate::line::line_at;
 use entry::Entry;
@@ -13,7 +13,7 @@ ghost use Prim.Native.Nat.{_≤_};
 ghost use lib.ListN.{length, take};
 ghost use Rattle.network.specs.Plmn.{among};
 ghost use Rattle.config.specs.Branch.{listedOf, ListedIs, SectionIs, nextOf};
-ghost use Rattle.config.specs.Settings.{asListed, maxEntries, plmnIn};
+ghost use Rattle.config.specs.Settings.{asListed, mostListed, plmnIn};
 
 // The kinds of entry that are listed.
 pub enum Kind {
@@ -57,8 +57,8 @@ fn of_kind(e: Entry, kind: Kind, next: usize) -> Listed
 }
 
 // Whether a PLMN stands among the first n preferred ones.
-pub fn has_preferred(list: [Preferred; MAX_ENTRIES], n: usize, p: Plmn) -> bool
-    requires { ⌜ n ≤ maxEntries ⌝ }
+pub fn has_preferred(list: [Preferred; MOST_LISTED], n: usize, p: Plmn) -> bool
+    requires { ⌜ n ≤ mostListed ⌝ }
     ensures { λ r. ⌜ r ≡ among p (map plmnIn (take n list)) ⌝ }
 {
     let mut i = 0;
@@ -87,7 +87,7 @@ fn listed_at(text: &[u8], at: usize, kind: Kind) -> Listed
 // The entries of one kind from a place on: those below the count, and where the next line begins.
 pub(crate) struct Section {
     pub ok: bool,
-    pub list: [Preferred; MAX_ENTRIES],
+    pub list: [Preferred; MOST_LISTED],
     pub count: usize,
     pub next: usize,
 }
@@ -101,13 +101,13 @@ fn refused() -> Section
         list: [Preferred {
             plmn: Plmn { mcc: 0, mnc: 0 },
             priority: 0,
-        }; MAX_ENTRIES],
+        }; MOST_LISTED],
         count: 0,
         next: 0,
     }
 }
 
-// Collects the entries of one kind that follow one another, where there are at most `MAX_ENTRIES` and no PLMN stands twice.
+// Collects the entries of one kind that follow one another, where there are at most `MOST_LISTED` and no PLMN stands twice.
 pub(crate) fn collect(text: &[u8], start: usize, kind: Kind) -> Section
     requires { ⌜ start ≤ length (now text) ⌝ }
     ensures { λ r. ⌜ SectionIs kind (now (text .entry)) start r ⌝ }
@@ -116,7 +116,7 @@ pub(crate) fn collect(text: &[u8], start: usize, kind: Kind) -> Section
         plmn: Plmn { mcc: 0, mnc: 0 },
         priority: 0,
     };
-    let mut list = [none; MAX_ENTRIES];
+    let mut list = [none; MOST_LISTED];
     let mut count = 0;
     let mut at = start;
     loop {
@@ -128,7 +128,7 @@ pub(crate) fn collect(text: &[u8], start: usize, kind: Kind) -> Section
                 next: at,
             };
         };
-        if count == MAX_ENTRIES {
+        if count == MOST_LISTED {
             return refused();
         }
         if has_preferred(list, count, p.plmn) {

@@ -1,6 +1,6 @@
 // The reader of the configuration text.
 use crate::Config;
-use crate::MAX_ENTRIES;
+use crate::MOST_LISTED;
 use crate::Node;
 use crate::Parsed;
 use crate::line::TextLine;
@@ -105,7 +105,7 @@ fn ill_formed() -> Parsed
     let list = [Preferred {
         plmn: home,
         priority: 0,
-    }; MAX_ENTRIES];
+    }; MOST_LISTED];
     Parsed {
         ok: false,
         config: Config {

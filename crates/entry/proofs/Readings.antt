@@ -17,7 +17,7 @@ use Rattle.text.specs.Text.{readDigits, numberRead, digitText, decimal, decimal
 use Rattle.text.specs.declared.Reading.{Reading}
 use Rattle.text.specs.declared.Reading.the-variants.{Number, NotDigits}
 use Rattle.text.proofs.Texts.{write-text, length-digitText, width-below}
-use Rattle.entry.specs.Field.{plmnFrom, plmnOf, plain, priorityOf, isName, isNameCharacter, maxPriority, maxNameLength}
+use Rattle.entry.specs.Field.{plmnFrom, plmnOf, plain, priorityOf, isName, isNameCharacter, mostPriority, mostName}
 
 -- what a reading of a whole field says of it
 module _ (b : ℕ) (l : List ℕ) (r : Reading) (read : numberRead r ≡ readDigits b (part l 0 (length l))) where
@@ -84,17 +84,17 @@ module _ (l : List ℕ) (x : ℕ) (reads : readDigits 10 l ≡ some x) where
       go true e = absurd (h (ap length (same-equal l (decimal x) e) ∙ length-digitText 10 (decimalWidth x) x))
       go false e = e
 
-  pub priority-high : maxPriority < x → none ≡ priorityOf l
+  pub priority-high : mostPriority < x → none ≡ priorityOf l
   unfolding priorityOf plain
-  priority-high h = simp (reads, lt-leb x maxPriority h)
+  priority-high h = simp (reads, lt-leb x mostPriority h)
 
   pub priority-misspelt : (length l ≡ decimalWidth x → ⊥) → none ≡ priorityOf l
   unfolding priorityOf plain
-  priority-misspelt h = rw (reads, and-false (leb x maxPriority) (same l (decimal x)) (misspelt h))
+  priority-misspelt h = rw (reads, and-false (leb x mostPriority) (same l (decimal x)) (misspelt h))
 
-  pub priority-is : x ≤ maxPriority → length l ≡ decimalWidth x → some x ≡ priorityOf l
+  pub priority-is : x ≤ mostPriority → length l ≡ decimalWidth x → some x ≡ priorityOf l
   unfolding priorityOf plain
-  priority-is h e = simp (reads, le-leb x maxPriority h, spelt e)
+  priority-is h e = simp (reads, le-leb x mostPriority h, spelt e)
 
 pub priority-none : (l : List ℕ) → readDigits 10 l ≡ none → none ≡ priorityOf l
 unfolding priorityOf plain
@@ -110,18 +110,18 @@ priority-long l h = go (readDigits 10 l) refl
 
     go : (o : Option ℕ) → readDigits 10 l ≡ o → none ≡ priorityOf l
     go none e = priority-none l e
-    go (some x) e = sized x e (leb x maxPriority) refl
+    go (some x) e = sized x e (leb x mostPriority) refl
 
 module _ (l : List ℕ) where
   pub name-short : length l < 1 → false ≡ isName l
   unfolding isName
   name-short h = simp (lt-leb 1 (length l) h)
 
-  pub name-long : 1 ≤ length l → maxNameLength < length l → false ≡ isName l
+  pub name-long : 1 ≤ length l → mostName < length l → false ≡ isName l
   unfolding isName
-  name-long h k = simp (le-leb 1 (length l) h, lt-leb (length l) maxNameLength k)
+  name-long h k = simp (le-leb 1 (length l) h, lt-leb (length l) mostName k)
 
   -- within its length the characters decide
-  pub name-is : 1 ≤ length l → length l ≤ maxNameLength → isName l ≡ allOf isNameCharacter l
+  pub name-is : 1 ≤ length l → length l ≤ mostName → isName l ≡ allOf isNameCharacter l
   unfolding isName
-  name-is h k = simp (le-leb 1 (length l) h, le-leb (length l) maxNameLength k)
+  name-is h k = simp (le-leb 1 (length l) h, le-leb (length l) mostName k)

@@ -22,21 +22,21 @@ plmnOf mcc mnc =
     cond (eqb (length mcc) 3 && (eqb (length mnc) 2 || eqb (length mnc) 3)) (plmnFrom (readDigits 10 mcc) (readDigits 10 mnc)) none
 
 -- the greatest number that a priority is
-abbrev pub maxPriority : ℕ
-maxPriority = 255
+abbrev pub mostPriority : ℕ
+mostPriority = 255
 
 -- a number up to the greatest priority that is spelt as it is written in decimal
 unfoldable pub plain : List ℕ → Option ℕ → Option ℕ
 plain l none = none
-plain l (some x) = cond (leb x maxPriority && same l (decimal x)) (some x) none
+plain l (some x) = cond (leb x mostPriority && same l (decimal x)) (some x) none
 
 -- a priority is 0 to 255 without leading zeros
 unfoldable pub priorityOf : List ℕ → Option ℕ
 priorityOf l = plain l (readDigits 10 l)
 
 -- the most characters that a node name has
-abbrev pub maxNameLength : ℕ
-maxNameLength = 253
+abbrev pub mostName : ℕ
+mostName = 253
 
 -- a letter of either case, a digit, a hyphen or a dot
 unfoldable pub isNameCharacter : ℕ → Bool
@@ -45,4 +45,4 @@ isNameCharacter c =
 
 -- a node name has 1 to 253 such characters
 unfoldable pub isName : List ℕ → Bool
-isName l = leb 1 (length l) && leb (length l) maxNameLength && allOf isNameCharacter l
+isName l = leb 1 (length l) && leb (length l) mostName && allOf isNameCharacter l

@@ -10,10 +10,10 @@ ghost use Rattle.network.specs.Plmn.{plmnOption};
 ghost use Rattle.text.specs.Text.{numberRead};
 
 // The most characters that a node name has.
-pub const MAX_NAME_LENGTH: usize = 253;
+pub const MOST_NAME: usize = 253;
 
 // The greatest number that a priority is.
-pub const MAX_PRIORITY: u64 = 255;
+pub const MOST_PRIORITY: u64 = 255;
 
 // A `plmn` entry: a PLMN and its priority, 0 the best.
 pub struct Preferred {
@@ -57,7 +57,7 @@ pub fn priority(field: &[u8]) -> Reading
     let Reading::Number(x) = read_digits(field, 0, n, 10) else {
         return Reading::NotDigits;
     };
-    if MAX_PRIORITY < x {
+    if MOST_PRIORITY < x {
         return Reading::NotDigits;
     }
     if decimal_width(x) != n {
@@ -104,7 +104,7 @@ pub fn is_name(field: &[u8]) -> bool
     if field.len() < 1 {
         return false;
     }
-    if MAX_NAME_LENGTH < field.len() {
+    if MOST_NAME < field.len() {
         return false;
     }
     let mut i = 0;

@@ -17,6 +17,10 @@ numberFrom b x (d ∷ ds) = numberFrom b (x * b + d) ds
 unfoldable pub number : ℕ → List ℕ → ℕ
 number b ds = numberFrom b 0 ds
 
+-- the highest number of one octet
+abbrev pub mostOctet : ℕ
+mostOctet = 255
+
 -- n big-endian octets of x
 unfoldable pub be : ℕ → ℕ → List ℕ
 be n x = digits 256 n x

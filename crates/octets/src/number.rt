@@ -5,6 +5,9 @@ ghost use lib.ListN.{length};
 ghost use Rattle.octets.specs.Digits.{be, field};
 ghost use Rattle.octets.specs.Part.{Wrote};
 
+// The highest number of one octet.
+pub const MOST_OCTET: u64 = 255;
+
 // An octet as a number of 64 bits.
 pub(crate) fn wide(x: u8) -> u64
     ensures { λ r. ⌜ (r ≡ x) × (r < 256) ⌝ }

@@ -15,7 +15,7 @@ use Rattle.octets.proofs.Rows.{row-more, row-done, left-more, left-none}
 use Rattle.network.specs.Plmn.{samePlmn, among}
 use Rattle.network.specs.declared.Plmn.{Plmn}
 use Rattle.entry.specs.declared.field.Preferred.{Preferred}
-use Rattle.config.specs.Settings.{maxEntries, plmnIn}
+use Rattle.config.specs.Settings.{mostListed, plmnIn}
 use Rattle.lists.specs.Lists.{networkAt, networksIn}
 use Rattle.preference.specs.Branch.{whereFound}
 use Rattle.preference.specs.Preference.{better, best, hasPlmns, networkOf, visited, offered}
@@ -96,7 +96,7 @@ module _ (p : Preferred → Bool) (l : List Preferred) (n i : ℕ) (long : n ≤
     best-same e = from-next ∙ sym (ap best (split false inside e))
 
 -- there are records where their count is not 0
-pub some-plmns : (n : ℕ) (l : List Preferred) → length l ≡ maxEntries → ltb 0 n ≡ hasPlmns (take n l)
+pub some-plmns : (n : ℕ) (l : List Preferred) → length l ≡ mostListed → ltb 0 n ≡ hasPlmns (take n l)
 unfolding hasPlmns
 some-plmns zero l h = refl
 some-plmns (suc n) [] h = absurd (suc-ne-zero _ (sym h))

@@ -1,6 +1,6 @@
 // What a configuration says of networks.
 use config::Config;
-use config::MAX_ENTRIES;
+use config::MOST_LISTED;
 use config::Node;
 use config::list::has_preferred;
 use entry::field::Preferred;
@@ -14,13 +14,13 @@ ghost use Prim.Native.Nat.{_≤_};
 ghost use lib.ListN.{take};
 ghost use Rattle.octets.specs.Row.{only};
 ghost use Rattle.network.specs.Plmn.{among, plmnOption};
-ghost use Rattle.config.specs.Settings.{maxEntries, Counted, settingsIn};
+ghost use Rattle.config.specs.Settings.{mostListed, Counted, settingsIn};
 ghost use Rattle.lists.specs.Lists.{networksIn};
 ghost use Rattle.preference.specs.Branch.{whereFound};
 ghost use Rattle.preference.specs.Preference.{barred, best, better, eligible, hasPlmns, networkOf, offered, preferred, provisioned, ranked, unranked, visited};
 
 // Whether there is a record among the first n.
-fn has_plmns(list: [Preferred; MAX_ENTRIES], n: usize) -> bool
+fn has_plmns(list: [Preferred; MOST_LISTED], n: usize) -> bool
     ensures { λ r. ⌜ r ≡ hasPlmns (take n list) ⌝ }
 {
     0 < n
@@ -119,13 +119,13 @@ fn better_of(x: Preferred, found: bool, top: Preferred) -> Preferred
 
 // The network of best priority among the first n records that are eligible.
 fn best_of(
-    list: [Preferred; MAX_ENTRIES],
+    list: [Preferred; MOST_LISTED],
     n: usize,
     config: Config,
     networks: &[u8],
     place: Place,
 ) -> MaybePlmn
-    requires { ⌜ (n ≤ maxEntries) × Counted config ⌝ }
+    requires { ⌜ (n ≤ mostListed) × Counted config ⌝ }
     ensures { λ r. ⌜ plmnOption r ≡ networkOf (best (only (eligible (settingsIn config) (networksIn (now (networks .entry))) place) (take n list))) ⌝ }
 {
     let mut top = list[0];

@@ -4,7 +4,7 @@ use mathlib.Core.Bool.{Bool, cond, not, _||_}
 use mathlib.Core.List.{List, [], _∷_, _++_}
 use lib.Dec.{ltb, eqb}
 use lib.ListN.{length}
-use Rattle.octets.specs.Digits.{be}
+use Rattle.octets.specs.Digits.{be, mostOctet}
 use Rattle.octets.specs.Part.{zeros, padded}
 use Rattle.octets.specs.Refusal.{_when_, refusal}
 use Rattle.parameters.specs.Parameters.{mostParameters, wellFormed}
@@ -34,7 +34,7 @@ lentOutOfRange parameters nas = ltb mostParameters (length parameters) || ltb (l
 
 -- an identifier of more than one octet, or lent octets out of their range
 unfoldable pub outOfRange : ℕ → List ℕ → List ℕ → Bool
-outOfRange identifier parameters nas = ltb 255 identifier || lentOutOfRange parameters nas
+outOfRange identifier parameters nas = ltb mostOctet identifier || lentOutOfRange parameters nas
 
 -- the refusal of a NAS response for a buffer of so many octets, 0 where it is written
 unfoldable pub writeRefusal : ℕ → List ℕ → List ℕ → ℕ → ℕ

@@ -1,5 +1,6 @@
 // The writer of NAS responses.
 use eap::MOST_NAS;
+use octets::number::MOST_OCTET;
 use octets::number::put;
 use octets::slice::copy;
 use octets::slice::zero;
@@ -22,7 +23,7 @@ fn refusal(identifier: u64, parameters: &[u8], nas: &[u8], room: usize) -> u64
     if room < REPLY_ROOM {
         return 3;
     }
-    if 255 < identifier {
+    if MOST_OCTET < identifier {
         return 8;
     }
     if MOST_PARAMETERS < parameters.len() {

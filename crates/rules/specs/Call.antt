@@ -22,6 +22,10 @@ listingRoom = 1024
 abbrev pub mostText : ℕ
 mostText = 1024
 
+-- an error notify has a number of at most so much
+abbrev pub mostError : ℕ
+mostError = 16_383
+
 -- the last time that a call may carry
 abbrev pub lastTime : ℕ
 lastTime = 4_294_967_295

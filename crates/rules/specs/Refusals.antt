@@ -5,6 +5,7 @@ use mathlib.Core.List.{List, [], _∷_}
 use mathlib.Core.Option.{Option, none, some}
 use lib.Dec.{leb, ltb, eqb}
 use lib.ListN.{length}
+use Rattle.octets.specs.Digits.{mostOctet}
 use Rattle.octets.specs.Refusal.{Refusal, _when_}
 use Rattle.octets.specs.Row.{isSome}
 use Rattle.address.specs.Address.{mostHolds}
@@ -25,7 +26,7 @@ use Rattle.record.specs.Line.{Line}
 use Rattle.response.specs.Response.{lentOutOfRange, replyRoom}
 use Rattle.selection.specs.Selection.{homeAbroad}
 use Rattle.rules.specs.Answer.{roomOf}
-use Rattle.rules.specs.Call.{Event, start, country, address, begin, init, eap, reply, final, error, congestion, give-up, child-made, child-deleted, ike-delete, Call, opening, closing, listing, timed, factsOf, lastLine, lastTenant, lastTime, listingRoom, mostText, nameRoom, startNumbersFit}
+use Rattle.rules.specs.Call.{Event, start, country, address, begin, init, eap, reply, final, error, congestion, give-up, child-made, child-deleted, ike-delete, Call, opening, closing, listing, timed, factsOf, lastLine, lastTenant, lastTime, listingRoom, mostError, mostText, nameRoom, startNumbersFit}
 use Rattle.rules.specs.Phases.{factsIn, isFirst, lastReply, owed, turnIn, underway}
 use Rattle.rules.specs.View.{View, lineFound, lineOr, lineSeen}
 
@@ -130,8 +131,8 @@ isOutOfRange init x = false
 isOutOfRange (eap packet) x = false
 isOutOfRange (reply parameters nas room) x = lentOutOfRange parameters nas || lacksParameters parameters (x .phase)
 isOutOfRange (final good) x = ltb 1 good
-isOutOfRange (error number) x = ltb number 1 || ltb 16383 number
-isOutOfRange (congestion authenticated timer) x = ltb 1 authenticated || ltb 255 timer
+isOutOfRange (error number) x = ltb number 1 || ltb mostError number
+isOutOfRange (congestion authenticated timer) x = ltb 1 authenticated || ltb mostOctet timer
 isOutOfRange give-up x = false
 isOutOfRange (child-made spi session) x = not (isChild (record { spi = spi; session = session }))
 isOutOfRange (child-deleted spi) x = false

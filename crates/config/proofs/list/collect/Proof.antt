@@ -15,7 +15,7 @@ use Rattle.entry.specs.declared.field.Preferred.{Preferred}
 use Rattle.network.specs.Plmn.{samePlmn}
 use Rattle.config.specs.Lines.{entriesFrom}
 use Rattle.config.specs.Branch.{ListedIs}
-use Rattle.config.specs.Settings.{maxEntries, plmnIn, asListed, section, rest}
+use Rattle.config.specs.Settings.{mostListed, plmnIn, asListed, section, rest}
 use Rattle.config.specs.declared.list.Listed.{Listed}
 use Rattle.config.proofs.Collects.{not-accepted, all-collected, all-accepted, too-many, repeated, one-more, still-new}
 use Rattle.config.proofs.list.collect.Statement.{statement}
@@ -23,7 +23,7 @@ use Rattle.config.proofs.list.collect.Tie as tie
 
 abbrev Inv-loop : tie.InvT-loop
 Inv-loop text start kind list₀ count₀ at₀ list count at =
-    (at ≤ length text) × (count ≤ maxEntries) × (length list ≡ maxEntries)
+    (at ≤ length text) × (count ≤ mostListed) × (length list ≡ mostListed)
     × (section (asListed kind) (entriesFrom text start) ≡ take count list ++ section (asListed kind) (entriesFrom text at))
     × (rest (asListed kind) (entriesFrom text start) ≡ rest (asListed kind) (entriesFrom text at))
     × (distinct samePlmn (map plmnIn (take count list)) ≡ true)
@@ -31,14 +31,14 @@ Inv-loop text start kind list₀ count₀ at₀ list count at =
 abbrev μ-loop : tie.MeasureT-loop
 μ-loop text start kind list₀ count₀ at₀ list count at = length text - at
 
-sized : (l : List Preferred) (n : ℕ) → n ≤ maxEntries → length l ≡ maxEntries → length (take n l) ≡ n
+sized : (l : List Preferred) (n : ℕ) → n ≤ mostListed → length l ≡ mostListed → length (take n l) ≡ n
 sized l n h e = length-take-le n l (omega arith)
 
-next : (n : ℕ) → n ≤ maxEntries → (n ≡ maxEntries → ⊥) → n < maxEntries
+next : (n : ℕ) → n ≤ mostListed → (n ≡ mostListed → ⊥) → n < mostListed
 next n h k = omega arith
 
 -- an entry stored behind those collected is collected
-snoc : (l : List Preferred) (n : ℕ) (p : Preferred) → length l ≡ maxEntries → n < maxEntries → take (n + 1) (set l n p) ≡ take n l ++ p ∷ []
+snoc : (l : List Preferred) (n : ℕ) (p : Preferred) → length l ≡ mostListed → n < mostListed → take (n + 1) (set l n p) ≡ take n l ++ p ∷ []
 snoc l n p e h = ap (λ (k : ℕ). take k (set l n p)) (add-one n) ∙ take-suc-set l n p (omega arith)
 
 falls : (at next n : ℕ) → at < next → next ≤ n → n - next < n - at
@@ -63,7 +63,7 @@ returns c =
     let at-loop = c .before .before .before .loop in
     let none = subst (λ (r : Listed). ListedIs (a .kind) (now (a .text)) (at-loop .at) r) (c .enum-told .given .1) (c .before .before .listed-at .ensures) in
     let d = take (at-loop .count) (at-loop .list) in
-    let few : length d ≤ maxEntries = subst (λ (k : ℕ). k ≤ maxEntries) (sym (sized (at-loop .list) (at-loop .count) (at-loop .inv .1) (at-loop .inv .2))) (at-loop .inv .1) in
+    let few : length d ≤ mostListed = subst (λ (k : ℕ). k ≤ mostListed) (sym (sized (at-loop .list) (at-loop .count) (at-loop .inv .1) (at-loop .inv .2))) (at-loop .inv .1) in
     record {
       ok-is = all-accepted _ d _ (at-loop .inv .3) (at-loop .inv .5) (none .0) few;
       list-is = λ _. all-collected _ d _ (at-loop .inv .3) (at-loop .inv .5) (none .0);
@@ -122,7 +122,7 @@ loop-again c =
     let a = c .before .before .before .before .before .before .before .before .before .args in
     let at-loop = c .before .before .before .before .before .before .before .loop in
     let one = subst (λ (r : Listed). ListedIs (a .kind) (now (a .text)) (at-loop .at) r) (c .before .before .before .before .p .given .1) (c .before .before .before .before .before .before .listed-at .ensures) in
-    let room : at-loop .count < maxEntries = next (at-loop .count) (at-loop .inv .1) (c .before .before .if1 .left) in
+    let room : at-loop .count < mostListed = next (at-loop .count) (at-loop .inv .1) (c .before .before .if1 .left) in
     let d = take (at-loop .count) (at-loop .list) in
     let p = c .before .before .before .before .p .given .0 .0 in
     let Y = section (asListed (a .kind)) (entriesFrom (now (a .text)) (c .before .before .before .before .p .given .0 .1 .0)) in
