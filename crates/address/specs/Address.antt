@@ -17,7 +17,7 @@ unfoldable pub versionOf : Address → ℕ
 versionOf (V4 x) = 4
 versionOf (V6 h l) = 6
 
--- how many octets an address of a version has: 32 bits or 128
+-- how many octets an address of version 4 has, and one of version 6: 32 bits and 128
 unfoldable pub widthOf : ℕ → ℕ
 widthOf v = cond (eqb v 4) 4 16
 

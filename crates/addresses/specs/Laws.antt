@@ -11,7 +11,7 @@ use Rattle.octets.specs.Search.{allOf}
 use Rattle.address.specs.Address.{numberOf, sameAddress, versionOf, widthOf}
 use Rattle.address.specs.declared.Address.{Address}
 use Rattle.address.specs.declared.Address.the-variants.{V4, V6}
-use Rattle.addresses.specs.Addresses.{addressFrom, addressOctets, isAddress}
+use Rattle.addresses.specs.Addresses.{addressFrom, addressLength, addressOctets, isAddress}
 
 -- version 6 is kept as halves of 64 bits
 unfoldable pub halved : Address → Bool
@@ -23,16 +23,16 @@ unfoldable pub addressStorable : Address → Bool
 addressStorable a = ltb (numberOf a) (256 ^ widthOf (versionOf a)) && halved a
 
 pub record Laws : Type 0 where
-  -- an address has 17 octets
-  pub octet-count : (a : Address) → length (addressOctets a) ≡ 17
+  -- every address has the same count of octets
+  pub octet-count : (a : Address) → length (addressOctets a) ≡ addressLength
   -- an address in range is read back from its octets
-  pub read-back : (l : List ℕ) (at : ℕ) (a : Address) → addressStorable a ≡ true → part l at 17 ≡ addressOctets a
+  pub read-back : (l : List ℕ) (at : ℕ) (a : Address) → addressStorable a ≡ true → part l at addressLength ≡ addressOctets a
       → (addressFrom l at ≡ a) × (isAddress l at ≡ true)
   -- an address is written back as the octets that it was read from
-  pub write-back : (l : List ℕ) (at : ℕ) → allOf (below 256) l ≡ true → at + 17 ≤ length l → isAddress l at ≡ true
-      → part l at 17 ≡ addressOctets (addressFrom l at)
+  pub write-back : (l : List ℕ) (at : ℕ) → allOf (below 256) l ≡ true → at + addressLength ≤ length l → isAddress l at ≡ true
+      → part l at addressLength ≡ addressOctets (addressFrom l at)
   -- an address that is read from octets is in range
-  pub storable : (l : List ℕ) (at : ℕ) → allOf (below 256) l ≡ true → at + 17 ≤ length l → addressStorable (addressFrom l at) ≡ true
+  pub storable : (l : List ℕ) (at : ℕ) → allOf (below 256) l ≡ true → at + addressLength ≤ length l → addressStorable (addressFrom l at) ≡ true
   -- addresses in range are the same exactly if they are equal
   pub same-equal : (a b : Address) → addressStorable a ≡ true → addressStorable b ≡ true → sameAddress a b ≡ true → a ≡ b
   pub equal-same : (a : Address) → sameAddress a a ≡ true

@@ -7,12 +7,15 @@ ghost use mathlib.Core.Path.{_≡_};
 ghost use Prim.Native.Nat.{_+_, _≤_};
 ghost use lib.ListN.{length};
 ghost use Rattle.octets.specs.Part.{Wrote};
-ghost use Rattle.addresses.specs.Addresses.{addressFrom, addressOctets, isAddress};
+ghost use Rattle.addresses.specs.Addresses.{addressFrom, addressLength, addressOctets, isAddress};
 ghost use Rattle.addresses.specs.Laws.{Laws};
+
+// The octets of an address.
+pub const ADDRESS: usize = 17;
 
 // The address at a place.
 pub fn read_address(list: &[u8], at: usize) -> Address
-    requires { ⌜ at + 17 ≤ length (now list) ⌝ }
+    requires { ⌜ at + addressLength ≤ length (now list) ⌝ }
     ensures { λ r. ⌜ r ≡ addressFrom (now (list .entry)) at ⌝ }
 {
     if get(list, at, 1) == 4 {
@@ -23,7 +26,7 @@ pub fn read_address(list: &[u8], at: usize) -> Address
 
 // Whether an address stands at a place.
 pub fn is_address(list: &[u8], at: usize) -> bool
-    requires { ⌜ at + 17 ≤ length (now list) ⌝ }
+    requires { ⌜ at + addressLength ≤ length (now list) ⌝ }
     ensures { λ r. ⌜ r ≡ isAddress (now (list .entry)) at ⌝ }
 {
     let version = get(list, at, 1);
@@ -38,7 +41,7 @@ pub fn is_address(list: &[u8], at: usize) -> bool
 
 // Stores an address at a place.
 pub fn put_address(list: &mut [u8], at: usize, a: Address)
-    requires { ⌜ at + 17 ≤ length (now list) ⌝ }
+    requires { ⌜ at + addressLength ≤ length (now list) ⌝ }
     ensures { λ _. ⌜ Wrote (now (list .entry)) at (addressOctets a) (now (list .exit)) ⌝ }
 {
     match a {

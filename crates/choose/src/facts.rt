@@ -16,7 +16,7 @@ use octets::slice::same;
 use place::Facts;
 use place::Place;
 use text::Reading;
-ghost use Prim.Native.Nat.{_≤_, _*_};
+ghost use Prim.Native.Nat.{_≤_};
 ghost use lib.ListN.{length};
 
 // What a field says of the place.

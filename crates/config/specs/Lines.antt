@@ -5,7 +5,7 @@ use lib.ListN.{length, drop}
 use Rattle.octets.specs.Part.{octetIs}
 use Rattle.octets.specs.Search.{least}
 use Rattle.entry.specs.Entry.{lineEntry}
-use Rattle.entry.specs.Pieces.{pieces}
+use Rattle.entry.specs.Pieces.{newlineCode, pieces}
 use Rattle.entry.specs.declared.Entry.{Entry}
 use Rattle.entry.specs.declared.Entry.the-variants.{Bad}
 
@@ -22,8 +22,8 @@ entries (l ∷ m ∷ ls) = lineEntry l ∷ entries (m ∷ ls)
 
 -- the entries of a text from a place on
 unfoldable pub entriesFrom : List ℕ → ℕ → List Entry
-entriesFrom text at = entries (pieces 10 (drop at text))
+entriesFrom text at = entries (pieces newlineCode (drop at text))
 
 -- where the first newline from a place on stands, or the length
 unfoldable pub lineEnd : List ℕ → ℕ → ℕ
-lineEnd text at = at + least (length text - at) (octetIs text at 10)
+lineEnd text at = at + least (length text - at) (octetIs text at newlineCode)

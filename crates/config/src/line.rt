@@ -7,6 +7,9 @@ ghost use Prim.Native.Nat.{_≤_};
 ghost use lib.ListN.{length};
 ghost use Rattle.config.specs.Branch.{LineIs};
 
+// The octet that ends a line.
+const NEWLINE: u8 = 10;
+
 // What stands at a place where a line may begin.
 pub(crate) enum TextLine {
     // An entry, and where the next line begins.
@@ -26,7 +29,7 @@ pub(crate) fn line_at(text: &[u8], at: usize) -> TextLine
     if at == n {
         return TextLine::Last;
     }
-    let end = find(text, at, n, 10);
+    let end = find(text, at, n, NEWLINE);
     if end == n {
         return TextLine::Broken;
     }

@@ -10,7 +10,7 @@ use Rattle.text.specs.Text.{text, readDigits}
 use Rattle.network.specs.declared.Plmn.{Plmn}
 use Rattle.address.specs.Address.{addressOf, widthOf}
 use Rattle.entry.specs.Field.{plmnOf, priorityOf, isName}
-use Rattle.entry.specs.Pieces.{pieces}
+use Rattle.entry.specs.Pieces.{pieces, tabCode}
 use Rattle.entry.specs.declared.Entry.{Entry}
 use Rattle.entry.specs.declared.Entry.the-variants.{Home, Name, Node, Preference, Bar, Bad}
 
@@ -73,4 +73,4 @@ entryOf (a ∷ b ∷ c ∷ d ∷ e ∷ fs) = Bad
 
 -- the fields of a line are parted by one tab
 unfoldable pub lineEntry : List ℕ → Entry
-lineEntry l = entryOf (pieces 9 l)
+lineEntry l = entryOf (pieces tabCode l)

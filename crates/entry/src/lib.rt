@@ -17,6 +17,9 @@ ghost use mathlib.Core.Path.{_≡_};
 ghost use Rattle.entry.specs.Entry.{barEntry, four, homeEntry, lineEntry, nameEntry, nodeEntry, three, versionEntry};
 ghost use Rattle.entry.specs.Field.{plmnOf};
 
+// The octet that parts the fields of a line.
+const TAB: u8 = 9;
+
 // The octets of a line before a node name: `node`, a tab, `name` and a tab.
 pub const BEFORE_NAME: usize = 10;
 
@@ -148,22 +151,22 @@ pub fn of_line(line: &[u8]) -> Entry
     ensures { λ r. ⌜ r ≡ lineEntry (now (line .entry)) ⌝ }
 {
     let n = line.len();
-    let a = find(line, 0, n, 9);
+    let a = find(line, 0, n, TAB);
     if a == n {
         return Entry::Bad;
     }
-    let b = find(line, a + 1, n, 9);
+    let b = find(line, a + 1, n, TAB);
     if b == n {
         return Entry::Bad;
     }
     let word = part(line, 0, a);
     let first = part(line, a + 1, b - a - 1);
-    let c = find(line, b + 1, n, 9);
+    let c = find(line, b + 1, n, TAB);
     let second = part(line, b + 1, c - b - 1);
     if c == n {
         return of_three(word, first, second);
     }
-    let d = find(line, c + 1, n, 9);
+    let d = find(line, c + 1, n, TAB);
     if d == n {
         return of_four(word, first, second, part(line, c + 1, d - c - 1));
     }

@@ -3,6 +3,7 @@ use address::Address;
 use address::HOLDS;
 use address::Hold;
 use address::is_permitted;
+use addresses::ADDRESS;
 use lists::address_at;
 ghost use mathlib.Core.List.{[], _∷_};
 ghost use mathlib.Core.Path.{_≡_};
@@ -25,7 +26,7 @@ pub fn choose(list: &[u8], local: u64, holds: [Hold; HOLDS], n: usize) -> Found
     requires { ⌜ n ≤ mostHolds ⌝ }
     ensures { λ r. ⌜ r ≡ choose local (heldAddresses (take n holds)) (addressesIn (now (list .entry))) ⌝ }
 {
-    let count = list.len() / 17;
+    let count = list.len() / ADDRESS;
     let mut i = 0;
     while i < count {
         let a = address_at(list, i);

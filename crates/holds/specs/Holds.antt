@@ -12,11 +12,11 @@ use Rattle.address.specs.declared.Address.{Address}
 use Rattle.address.specs.declared.End.{End}
 use Rattle.address.specs.declared.End.the-variants.{At, Never}
 use Rattle.address.specs.declared.Hold.{Hold}
-use Rattle.addresses.specs.Addresses.{addressOctets, addressFrom, isAddress}
+use Rattle.addresses.specs.Addresses.{addressFrom, addressLength, addressOctets, isAddress}
 
 -- the octets of a hold, and the room for all the holds that a line may have
 abbrev pub holdLength : ℕ
-holdLength = 22
+holdLength = addressLength + 5
 
 abbrev pub holdsRoom : ℕ
 holdsRoom = mostHolds * holdLength
@@ -36,7 +36,7 @@ unfoldable pub endOf : ℕ → End
 endOf t = cond (eqb t 0) Never (At t)
 
 unfoldable pub holdFrom : List ℕ → ℕ → Hold
-holdFrom l at = record { address = addressFrom l at; end = endOf (field l (at + 17) 5) }
+holdFrom l at = record { address = addressFrom l at; end = endOf (field l (at + addressLength) 5) }
 
 -- the hold with a number among those that begin at a place
 unfoldable pub holdIn : List ℕ → ℕ → ℕ → Hold

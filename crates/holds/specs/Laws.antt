@@ -15,7 +15,7 @@ use Rattle.address.specs.declared.Hold.{Hold}
 use Rattle.addresses.specs.Laws.{addressStorable}
 use Rattle.holds.specs.Holds.{holdLength, holdsFrom, holdsOctets, holdsRoom, holdsWritten}
 
--- an end that is not the number of none and fits 5 octets
+-- an end that fits 5 octets and is not 0, which says that there is none
 unfoldable pub endStorable : End → Bool
 endStorable (At t) = ltb 0 t && ltb t (256 ^ 5)
 endStorable Never = true

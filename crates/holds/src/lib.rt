@@ -4,6 +4,7 @@ use address::End;
 use address::HOLDS;
 use address::Hold;
 use address::is_held;
+use addresses::ADDRESS;
 use addresses::is_address;
 use addresses::put_address;
 use addresses::read_address;
@@ -21,7 +22,7 @@ ghost use Rattle.holds.specs.Holds.{different, endAfter, endNumber, endO
 ghost use Rattle.holds.specs.Laws.{Laws};
 
 // The octets of a hold.
-const LENGTH: usize = 22;
+const LENGTH: usize = ADDRESS + 5;
 
 // The octets of all the holds that a line has room for.
 pub const HOLDS_ROOM: usize = HOLDS * LENGTH;
@@ -52,7 +53,7 @@ fn read_hold(b: &[u8], at: usize) -> Hold
     ensures { λ r. ⌜ r ≡ holdFrom (now (b .entry)) at ⌝ }
 {
     let address = read_address(b, at);
-    let end = end_of(get(b, at + 17, 5));
+    let end = end_of(get(b, at + ADDRESS, 5));
     Hold { address, end }
 }
 
@@ -64,7 +65,7 @@ fn put_hold(b: &mut [u8], at: usize, hold: Hold)
     let address = hold.address;
     let end = hold.end;
     put_address(b, at, address);
-    put(b, at + 17, 5, end_number(end));
+    put(b, at + ADDRESS, 5, end_number(end));
 }
 
 // The first n holds of those that begin at a place.

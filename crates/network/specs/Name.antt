@@ -7,6 +7,10 @@ use Rattle.octets.specs.Part.{padded}
 use Rattle.text.specs.Text.{text, digitText}
 use Rattle.network.specs.declared.Plmn.{Plmn}
 
+-- a built name is written to a buffer of at least so many octets
+abbrev pub nameRoom : ℕ
+nameRoom = 64
+
 -- the name of an operator's network has its MNC and its MCC in three digits each (TS 23.003 clause 28)
 unfoldable pub operatorName : Plmn → List ℕ
 operatorName plmn =

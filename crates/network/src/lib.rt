@@ -8,7 +8,7 @@ ghost use Prim.Native.Nat.{_+_, _≤_};
 ghost use lib.ListN.{length};
 ghost use Rattle.octets.specs.Part.{Wrote};
 ghost use Rattle.text.specs.Text.{digitText};
-ghost use Rattle.network.specs.Name.{operatorName, visitedName, Named};
+ghost use Rattle.network.specs.Name.{nameRoom, operatorName, visitedName, Named};
 ghost use Rattle.network.specs.Laws.{Laws};
 ghost use Rattle.network.specs.Plmn.{samePlmn};
 
@@ -48,7 +48,7 @@ fn put_code(buffer: &mut [u8], at: usize, label: &[u8], code: u64)
 
 // Writes the name of an operator's network, with zeros after it, and returns its length.
 pub fn operator_name(buffer: &mut [u8], plmn: Plmn) -> usize
-    requires { ⌜ 64 ≤ length (now buffer) ⌝ }
+    requires { ⌜ nameRoom ≤ length (now buffer) ⌝ }
     ensures { λ r. ⌜ Named (operatorName plmn) (length (now (buffer .entry))) (now (buffer .exit)) r ⌝ }
 {
     zero(buffer);
@@ -60,7 +60,7 @@ pub fn operator_name(buffer: &mut [u8], plmn: Plmn) -> usize
 
 // Writes the name of a visited country, with zeros after it, and returns its length.
 pub fn visited_name(buffer: &mut [u8], mcc: u64) -> usize
-    requires { ⌜ 64 ≤ length (now buffer) ⌝ }
+    requires { ⌜ nameRoom ≤ length (now buffer) ⌝ }
     ensures { λ r. ⌜ Named (visitedName mcc) (length (now (buffer .entry))) (now (buffer .exit)) r ⌝ }
 {
     zero(buffer);

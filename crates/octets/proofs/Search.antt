@@ -51,11 +51,6 @@ pub or-true : (a b : Bool) → b ≡ true → a || b ≡ true
 or-true true b e = refl
 or-true false b e = e
 
--- a test that fails adds nothing
-pub or-false : (a : Bool) → a || false ≡ true → a ≡ true
-or-false true e = refl
-or-false false e = e
-
 -- a number is k or it isn't
 pub either : {A : Type 0} (n k : ℕ) → (n ≡ k → A) → ((n ≡ k → ⊥) → A) → A
 either {A} n k f g = by-test (eqb n k) refl

@@ -35,7 +35,7 @@ registeredFrom l at = cond (eqb (field l at 1) 1) (Is (record { mcc = field l (a
 unfoldable pub factsFrom : List ℕ → ℕ → Facts
 factsFrom l at = record { place = placeFrom l at; registered = registeredFrom l (at + 3); version = field l (at + 8) 1 }
 
--- what no place and no PLMN need is zero
+-- the octets that a place or a missing PLMN does not use are zero
 unfoldable pub placeWritten : List ℕ → ℕ → Bool
 placeWritten l at = eqb (field l at 1) 2 || leb (field l at 1) 1 && zerosAt l (at + 1) 2
 

@@ -53,6 +53,7 @@ turnFrom l at =
     let i = field l (at + 1) 1 in
     cond (eqb (field l at 1) 1) (First i) (cond (eqb (field l at 1) 2) (Owed i) (Answered i))
 
+-- a number above the last one is no phase, which `phaseWritten` says
 unfoldable pub phaseFrom : List ℕ → ℕ → Phase
 phaseFrom l at =
     let n = field l at 1 in

@@ -17,7 +17,7 @@ pub data Stage : Type 0 where
   sure : Stage
   live : Stage
 
--- a table of zeros has only idle lines
+-- the number that stands in the octets of a phase
 abbrev pub stageNumber : Stage → ℕ
 stageNumber idle = 0
 stageNumber country = 1

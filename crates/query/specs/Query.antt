@@ -31,7 +31,7 @@ TextWithin text (Text at n) = at + n ≤ length text
 TextWithin text (Network p) = Unit {0}
 TextWithin text (Address a) = Unit {0}
 
--- the two slices hold what the choice needs: the text its name, the name buffer the n octets of the name that was built
-pub record Holds (text name : List ℕ) (n : ℕ) (choice : Choice) : Type 0 where
+-- the asked name lies in its slice: a name of the text within it, a built one as the n first octets of the name buffer
+pub record Lies (text name : List ℕ) (n : ℕ) (choice : Choice) : Type 0 where
   pub in-text : TextWithin text choice
   pub in-name : Named (built choice) (length name) name n

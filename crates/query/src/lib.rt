@@ -8,12 +8,12 @@ ghost use mathlib.Core.List.{[]};
 ghost use mathlib.Core.Path.{_≡_};
 ghost use Prim.Native.Nat.{_≤_};
 ghost use lib.ListN.{length};
-ghost use Rattle.network.specs.Name.{Named};
-ghost use Rattle.query.specs.Query.{asked, built, Holds};
+ghost use Rattle.network.specs.Name.{nameRoom, Named};
+ghost use Rattle.query.specs.Query.{asked, built, Lies};
 
 // Writes the name that a choice needs built, with zeros after it, and returns its length.
 pub fn build(choice: Choice, name: &mut [u8]) -> usize
-    requires { ⌜ 64 ≤ length (now name) ⌝ }
+    requires { ⌜ nameRoom ≤ length (now name) ⌝ }
     ensures { λ r. ⌜ Named (built choice) (length (now (name .entry))) (now (name .exit)) r ⌝ }
 {
     match choice {
@@ -35,7 +35,7 @@ fn nothing(name: &mut [u8]) -> usize
 
 // The name to ask, as a part of the text or as the first n octets of the name buffer.
 pub fn asked<'a>(choice: Choice, text: &'a [u8], name: &'a [u8], n: usize) -> &'a [u8]
-    requires { ⌜ Holds (now text) (now name) n choice ⌝ }
+    requires { ⌜ Lies (now text) (now name) n choice ⌝ }
     ensures { λ r. ⌜ now r ≡ asked (now (text .entry)) choice ⌝ }
 {
     match choice {

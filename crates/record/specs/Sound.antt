@@ -1,5 +1,5 @@
 -- When a record is sound (document 01, 'The table and who sits in it'), one condition after another.
-use Prim.Native.Nat.{ℕ}
+use Prim.Native.Nat.{ℕ, suc, _-_, _*_}
 use mathlib.Core.Bool.{Bool, true, not, _&&_, _||_}
 use mathlib.Core.List.{List}
 use mathlib.Core.Option.{Option, none, some}
@@ -48,7 +48,7 @@ chosenFree (some a) held = not (stands a held)
 
 -- a line that is not idle has room for one hold more
 abbrev pub mostBusyHolds : ℕ
-mostBusyHolds = 7
+mostBusyHolds = mostHolds - 1
 
 -- at most 8 holds, at most 7 unless the line is idle, for different addresses, none of them the chosen one, each ending after the last time
 unfoldable pub holdsSound : ℕ → Phase → List Hold → Bool
@@ -63,9 +63,17 @@ lineSound x = inRange (x .phase) (x .children) && childrenSound (x .phase) (x .c
 unfoldable pub lineWritten : List ℕ → Bool
 lineWritten l = phaseWritten l phasePlace && holdsWritten l holdsPlace (field l holdCountPlace 1) && childrenWritten l childrenPlace (field l childCountPlace 1)
 
--- a record of one of the 64 pairs
+-- the highest tenant, the highest line of a tenant, and how many pairs of both there are
+abbrev pub lastTenant : ℕ
+lastTenant = 15
+
+abbrev pub lastLine : ℕ
+lastLine = 3
+
 abbrev pub mostPairs : ℕ
-mostPairs = 64
+mostPairs = suc lastTenant * suc lastLine
+
+-- a record of one of the pairs
 
 unfoldable pub isRecord : List ℕ → Bool
 isRecord l = leb 1 (field l 0 1) && leb (field l 0 1) mostPairs && lineWritten l && lineSound (lineFrom l)

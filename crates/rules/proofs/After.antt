@@ -21,7 +21,7 @@ use Rattle.timer.specs.declared.Timer.the-variants as Timer
 use Rattle.rules.specs.After.{After, childrenAfter, congestionHold, holdAdded}
 use Rattle.rules.specs.Call.{Event, start, country, address, begin, init, eap, reply, final, error, congestion, give-up, child-made, child-deleted, ike-delete, timed, factsOf}
 use Rattle.rules.specs.Claims.{Timed, lineIn}
-use Rattle.rules.specs.Life.{becomes, chosenHold, congested, current, finished, goes, inPhase, keeps, outcome, packetTaken, timerHold, withChildren}
+use Rattle.rules.specs.Life.{chosenHold, congested, current, finished, goes, inPhase, keeps, outcome, packetTaken, timerHold, withChildren}
 use Rattle.rules.specs.Phases.{factsIn, owed, turnIn}
 use Rattle.rules.specs.Run.{run}
 use Rattle.rules.proofs.Goes.{addressed-goes, answered-goes, replied-goes, started-goes}
@@ -75,7 +75,7 @@ module _ (x : Line) where
 
   -- one clause for each row of the table
   steps : (e : Event) → Step e x (outcome e x .line)
-  unfolding outcome holdAdded childrenAfter keeps goes inPhase becomes congested withChildren
+  unfolding outcome holdAdded childrenAfter keeps goes inPhase congested withChildren
   steps (start g t room) = by-phase (start g t room) (started-goes x (factsOf g) t (configOf t) .only-phase) refl refl
   steps (country n networks t room) =
       by-phase (country n networks t room) (answered-goes x (factsIn (x .phase)) (Selection.countryReply (eqb n 1) (networksIn networks)) t (configOf t) .only-phase) refl refl

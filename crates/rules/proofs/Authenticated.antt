@@ -34,7 +34,7 @@ use Rattle.rules.specs.After.{LiveBy, was-live, auth-good, SureBy, was-s
 use Rattle.rules.specs.Call.{Event, start, country, address, begin, init, eap, reply, final, error, congestion, give-up, child-made, child-deleted, ike-delete, Call, opening, closing, listing, timed, factsOf, pairOf, lastTime}
 use Rattle.rules.specs.Claims.{Good, Timed, lineIn}
 use Rattle.rules.specs.Histories.{isOctets}
-use Rattle.rules.specs.Life.{becomes, congested, current, finished, goes, inPhase, keeps, onward, outcome, packetTaken, withChildren}
+use Rattle.rules.specs.Life.{congested, current, finished, goes, inPhase, keeps, onward, outcome, packetTaken, withChildren}
 use Rattle.rules.specs.Phases.{factsIn, lastReply, owed, turnIn}
 use Rattle.rules.specs.Refusals.{isDue, isNumber, isAllowed}
 use Rattle.rules.specs.Run.{Result, run, step, stepOf, timedStep}
@@ -69,7 +69,7 @@ module _ (x : Line) where
 
   -- one clause for each row of the table
   leads : (e : Event) → Leads e (x .phase) (outcome e x .line .phase)
-  unfolding outcome keeps goes inPhase becomes congested withChildren isIn
+  unfolding outcome keeps goes inPhase congested withChildren isIn
   leads (start g t room) = early (started-goes x (factsOf g) t (configOf t) .early)
   leads (country n networks t room) = early (answered-goes x (factsIn (x .phase)) (Selection.countryReply (eqb n 1) (networksIn networks)) t (configOf t) .early)
   leads (address list) = early (addressed-goes x (factsIn (x .phase)) (addressesIn list) .early)
@@ -158,7 +158,7 @@ module _ (tenant line time : ℕ) (e : Event) (l : List ℕ) (octets : isOctets 
   p = pairOf tenant line
 
   own-came : (y : Line) → lineIn (run d l .table) tenant line ≡ some y → Came d l tenant line y
-  unfolding lineIn stepOf step timedStep pairOf isSome
+  unfolding stepOf step timedStep pairOf isSome
   own-came y h = go (lineIn l tenant line) refl (sym (open-line p (omega arith) (slotsOf l)) ∙ open-found l p ∙ lt-ltb (recordOf l p) 32 (ready d l octets good n .0))
     where
       go : (o : Option Line) → lineIn l tenant line ≡ o → isSome o ≡ true → Came d l tenant line y
@@ -175,14 +175,14 @@ module _ (l : List ℕ) (good : Good l) (tenant line : ℕ) (small : line ≤ 3)
   -- a line that stands after an accepted call was put there or stood before
   module _ (c : Call) (octets : isOctets c ≡ true) (n : number c l ≡ 0) (h : lineIn (run c l .table) tenant line ≡ some y) where
     acted : lineAfter (stepOf c l .act) q (lineIn l tenant line) ≡ some y
-    unfolding lineIn pairOf
+    unfolding pairOf
     acted =
         sym (ap (λ (r : Result). lineAt q (slotsOf (r .table))) (accepted c l n) ∙ act-line l good (stepOf c l .act) (ready c l octets good n) q (omega arith)) ∙ h
 
   -- its own timed call is one on the same tenant and line
   same-pair : (t k time : ℕ) (e : Event) → isOctets (timed t k time e) ≡ true → number (timed t k time e) l ≡ 0
       → lineIn (run (timed t k time e) l .table) tenant line ≡ some y → pairOf t k ≡ q → Came (timed t k time e) l tenant line y
-  unfolding pairOf lineIn
+  unfolding pairOf
   same-pair t k time e octets n h same =
       let c = timed t k time e in
       let low = in-range t k time e l octets good n in

@@ -25,7 +25,7 @@ use Rattle.record.specs.Line.{Line}
 use Rattle.record.specs.Sound.{chosen, lineSound}
 use Rattle.selection.specs.Selection as Selection
 use Rattle.rules.specs.Call.{Event, StartNumbers, start, country, address, begin, init, eap, reply, final, error, congestion, give-up, child-made, child-deleted, ike-delete, eventOctets, lastTime, startNumbersFit}
-use Rattle.rules.specs.Life.{becomes, current, finished, goes, keeps, outcome}
+use Rattle.rules.specs.Life.{current, finished, goes, keeps, outcome}
 use Rattle.rules.specs.Phases.{factsIn, owed, turnIn, underway}
 use Rattle.rules.specs.Refusals.{hasNoRoom, isAllowed, isChild, isHeldFull, isOutOfRange, isSpiTaken, refusalsOf}
 use Rattle.rules.proofs.Children.{child-deleted-valid, child-made-valid, deleted-valid}
@@ -115,7 +115,7 @@ module _ (out : Bool) (x : Line) (v : Valid x) where
   keeps-error number p = rests x v (calm-underway (x .phase) (p .allowed))
 
   keeps-congestion : (authenticated timer : ℕ) → Passes (congestion authenticated timer) out x → Valid (outcome (congestion authenticated timer) x .line)
-  unfolding isOutOfRange isAllowed outcome becomes
+  unfolding isOutOfRange isAllowed outcome
   keeps-congestion authenticated timer p =
       let small = or-right (ltb 1 authenticated) (ltb 255 timer) (p .in-range) in
       let on = and-right (eqb authenticated 1) (underway (x .phase)) (p .allowed) in
@@ -126,17 +126,17 @@ module _ (out : Bool) (x : Line) (v : Valid x) where
   keeps-give-up p = rests x v (calm-between (x .phase) (p .allowed))
 
   keeps-child-made : (spi session : ℕ) → Passes (child-made spi session) out x → Valid (outcome (child-made spi session) x .line)
-  unfolding isOutOfRange isAllowed isSpiTaken hasNoRoom outcome becomes
+  unfolding isOutOfRange isAllowed isSpiTaken hasNoRoom outcome
   keeps-child-made spi session p =
       let good = not-false (isChild (record { spi = spi; session = session })) (p .in-range) in
       child-made-valid x v spi session good (p .allowed) (p .new-spi) (p .child-room)
 
   keeps-child-deleted : (spi : ℕ) → Passes (child-deleted spi) out x → Valid (outcome (child-deleted spi) x .line)
-  unfolding isAllowed outcome becomes
+  unfolding isAllowed outcome
   keeps-child-deleted spi p = child-deleted-valid x v spi (and-left (isIn Stage.live (x .phase)) (hasSpi spi (x .children)) (p .allowed))
 
   keeps-ike-delete : Valid (outcome ike-delete x .line)
-  unfolding outcome becomes
+  unfolding outcome
   keeps-ike-delete = deleted-valid x v
 
   keeps-valid : (e : Event) → allOf (below 256) (eventOctets e) ≡ true → Passes e out x → Valid (outcome e x .line)

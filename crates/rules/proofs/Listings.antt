@@ -1,18 +1,19 @@
 -- How long a listing is: a line of a sound table has at most 50 octets and each of its at most 8 children at most 20.
 use Prim.Native.Nat.{ℕ, suc, _+_, _*_, _≤_, _<_}
-use mathlib.Core.Bool.{Bool, true, false, cond, _&&_}
+use mathlib.Core.Bool.{Bool, true, _&&_}
 use mathlib.Core.List.{List, [], _∷_}
 use mathlib.Core.Option.{Option, none, some}
 use mathlib.Core.Path.{_≡_, refl}
 use native.Mathlib.Omega.{arith}
-use lib.Dec.{eqb, leb}
+use lib.Dec.{leb}
 use lib.ListN.{length, length-append}
 use borrow.Author.Tests.{leb-true}
 use Rattle.octets.specs.Row.{joined, row}
 use Rattle.octets.specs.Search.{allOf}
 use Rattle.octets.proofs.Rows.{length-row, row-passes}
 use Rattle.octets.proofs.Search.{and-left, and-right}
-use Rattle.address.specs.Address.{versionOf, widthOf}
+use Rattle.address.specs.Address.{versionOf}
+use Rattle.address.proofs.Numbers.{width-most}
 use Rattle.address.specs.declared.Address.{Address}
 use Rattle.children.specs.Children.{childFits}
 use Rattle.children.specs.declared.Child.{Child}
@@ -28,15 +29,6 @@ use Rattle.rules.specs.Call.{pairOf}
 use Rattle.rules.specs.Listing.{addressText, childText, lineText, listFrom, newline, tab, word}
 use Rattle.rules.specs.View.{ownLine}
 use Rattle.rules.proofs.Accepted.{found-sound}
-
--- no version has more than 16 octets
-width-most : (v : ℕ) → widthOf v ≤ 16
-unfolding widthOf
-width-most v = go (eqb v 4)
-  where
-    go : (b : Bool) → cond b 4 16 ≤ 16
-    go true = omega arith
-    go false = omega arith
 
 word-short : (s : Stage) → length (text (word s)) ≤ 7
 unfolding word text

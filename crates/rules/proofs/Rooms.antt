@@ -35,7 +35,7 @@ use Rattle.selection.specs.declared.Choice.the-variants as Choice
 use Rattle.table.specs.Table.{isTable}
 use Rattle.rules.specs.Answer.{eventRoom, roomOf}
 use Rattle.rules.specs.Call.{Event, start, country, address, begin, init, eap, reply, final, error, congestion, give-up, child-made, child-deleted, ike-delete, Call, opening, closing, listing, timed, factsOf, tenantOf, lastTime, listingRoom}
-use Rattle.rules.specs.Life.{addressAnswered, becomes, countryAnswered, decided, finished, gatewayFound, goes, keeps, nameAsked, outcome, packetTaken, replied, started}
+use Rattle.rules.specs.Life.{addressAnswered, countryAnswered, decided, finished, gatewayFound, goes, keeps, nameAsked, outcome, packetTaken, replied, started}
 use Rattle.rules.specs.Phases.{factsIn, owed, turnIn}
 use Rattle.rules.specs.Refusals.{isShort, leastEventRoom, leastRoom, isOutOfRange, lacksParameters}
 use Rattle.rules.specs.Run.{Result, answerOf, bare, run, step, stepOf, timedStep}
@@ -112,7 +112,7 @@ module _ (x : Line) where
 
 -- what an event that is not refused writes fits its buffer
 written-fits : (e : Event) (out : Bool) (x : Line) → ltb (eventRoom e) (leastEventRoom e) ≡ false → Passes e out x → length (outcome e x .written) ≤ eventRoom e
-unfolding outcome eventRoom leastEventRoom isOutOfRange keeps goes becomes
+unfolding outcome eventRoom leastEventRoom isOutOfRange keeps goes
 written-fits (start g t room) out x long p = omega (arith, ltb-false, started-short x (factsOf g) t (configOf t))
 written-fits (country n networks t room) out x long p =
     omega (arith, ltb-false, answered-short x (factsIn (x .phase)) (Selection.countryReply (eqb n 1) (networksIn networks)) t (configOf t))

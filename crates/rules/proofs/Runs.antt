@@ -99,7 +99,7 @@ module _ (tenant line : ℕ) (l : List ℕ) (good : Good l) (e : numberGiven (op
   opens = sym (given-is o l) ∙ e
 
   pub taken-over-clean : lineIn (run o l .table) tenant line ≡ some fresh
-  unfolding lineIn stepOf step lineAfter pairIn slotLine isOctets lentOctets allOf pairOf
+  unfolding stepOf step lineAfter pairIn slotLine isOctets lentOctets allOf pairOf
   taken-over-clean =
       let p = pairOf tenant line in
       let r = ready o l refl good opens in
@@ -130,7 +130,7 @@ listed-lines tenant room l sound small long = rw (sound, le-ltb 15 tenant small,
 pub taken-over-listed : (tenant line room : ℕ) (l : List ℕ) → Good l → numberGiven (opening tenant line) l ≡ 0 → 1024 ≤ room
     → run (listing tenant room) (run (opening tenant line) l .table) .answer .buffer
     ≡ padded room (listFrom 0 (set (row (ownLine tenant (slotsOf l)) 0 4) line (some fresh)))
-unfolding lineIn ownLine isOctets lentOctets allOf
+unfolding ownLine isOctets lentOctets allOf
 taken-over-listed tenant line room l good e long =
     let t = run (opening tenant line) l .table in
     listed-lines tenant room t (run-sound (opening tenant line) l refl good .sound) (opened-tenant tenant line l e) long

@@ -56,7 +56,7 @@ module _ (tenant line time : ℕ) (e : Event) (l : List ℕ) (x : Line) (t : Tim
   no-refusal = no-row c v no-number
 
   own-line : lineFound line time v ≡ current time x
-  unfolding viewIn tenantOf lineIn lineFound lineOr
+  unfolding viewIn tenantOf lineFound lineOr
   own-line =
       ap (λ (o : Option Line). current time (lineOr o)) (own-is tenant line (timed-pair tenant line time e v no-refusal) (slotsOf l) (isTable l) ∙ t .stands)
 
@@ -77,7 +77,7 @@ module _ (tenant line time : ℕ) (e : Event) (l : List ℕ) (x : Line) (t : Tim
   answer-is = ap (λ (r : Result). r .answer) (accepted c l no-number) ∙ ap (λ (s : Step). s .answer) line-step
 
   line-is : lineIn (run c l .table) tenant line ≡ some (o .line)
-  unfolding lineIn timedStep lineAfter pairIn slotLine pairOf
+  unfolding timedStep lineAfter pairIn slotLine pairOf
   line-is =
       let p = pairOf tenant line in
       ap (λ (r : Result). lineAt p (slotsOf (r .table))) (accepted c l no-number)

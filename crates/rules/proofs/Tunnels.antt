@@ -18,7 +18,7 @@ use Rattle.phase.specs.Stage as Stage
 use Rattle.record.specs.Line.{Line}
 use Rattle.rules.specs.Call.{child-made, child-deleted, timed, pairOf}
 use Rattle.rules.specs.Claims.{Good, Timed, lineIn}
-use Rattle.rules.specs.Life.{becomes, current, isOther, outcome, withChildren}
+use Rattle.rules.specs.Life.{current, isOther, outcome, withChildren}
 use Rattle.rules.specs.Refusals.{isAllowed}
 use Rattle.rules.specs.Run.{run}
 use Rattle.rules.proofs.Accepted.{found-storable, found-sound}
@@ -31,7 +31,7 @@ none-left (c ∷ cs) h = absurd (omega arith)
 
 -- the line of an open pair of a sound table is valid
 line-valid : (tenant line : ℕ) (l : List ℕ) (x : Line) → Good l → lineIn l tenant line ≡ some x → Valid x
-unfolding lineIn pairOf
+unfolding pairOf
 line-valid tenant line l x good e =
     let p = pairOf tenant line in
     valid-of x (found-sound l (good .sound) p (omega arith) x e) (found-storable l (good .sound) p (omega arith) x e (good .octets))
@@ -67,7 +67,7 @@ module _ (tenant line time spi : ℕ) (l : List ℕ) (x : Line) where
       → (isIn Stage.live (x .phase) ≡ true)
       × (lineIn (run (timed tenant line time (child-made spi session)) l .table) tenant line
       ≡ some (withChildren (current time x) (x .children ++ record { spi = spi; session = session } ∷ [])))
-  unfolding isAllowed outcome becomes current
+  unfolding isAllowed outcome current
   tunnels-made session t =
       let e = child-made spi session in
       (event-passes tenant line time e l x t .allowed, timed-run tenant line time e l x t .1)
@@ -75,7 +75,7 @@ module _ (tenant line time spi : ℕ) (l : List ℕ) (x : Line) where
   pub tunnels-deleted : Timed tenant line time (child-deleted spi) l x
       → (lineIn (run (timed tenant line time (child-deleted spi)) l .table) tenant line ≡ some (withChildren (current time x) (only (isOther spi) (x .children))))
       × (suc (length (only (isOther spi) (x .children))) ≡ length (x .children))
-  unfolding isAllowed outcome becomes current
+  unfolding isAllowed outcome current
   tunnels-deleted t =
       let e = child-deleted spi in
       let there = and-right (isIn Stage.live (x .phase)) (hasSpi spi (x .children)) (event-passes tenant line time e l x t .allowed) in

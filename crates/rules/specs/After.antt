@@ -18,7 +18,7 @@ use Rattle.phase.specs.Stage as Stage
 use Rattle.phase.specs.declared.Phase.{Phase}
 use Rattle.record.specs.Line.{Line}
 use Rattle.record.specs.Sound.{chosen}
-use Rattle.table.specs.Table.{recordOf}
+use Rattle.table.specs.Table.{freePair, recordOf}
 use Rattle.timer.specs.Timer.{unitSeconds}
 use Rattle.rules.specs.Call.{Event, start, country, address, begin, init, eap, reply, final, error, congestion, give-up, child-made, child-deleted, ike-delete, Call, opening, closing, listing, timed, pairOf}
 use Rattle.rules.specs.Life.{isOther}
@@ -26,7 +26,7 @@ use Rattle.rules.specs.Phases.{lastReply, turnIn}
 
 -- opening takes a free record, closing and events change that of their pair, a listing none
 unfoldable pub ownRecord : Call → List ℕ → Option ℕ
-ownRecord (opening tenant line) l = some (recordOf l 0)
+ownRecord (opening tenant line) l = some (recordOf l freePair)
 ownRecord (closing tenant line) l = some (recordOf l (pairOf tenant line))
 ownRecord (listing tenant room) l = none
 ownRecord (timed tenant line time e) l = some (recordOf l (pairOf tenant line))

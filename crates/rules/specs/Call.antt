@@ -3,6 +3,7 @@ use Prim.Native.Nat.{ℕ, suc, _+_, _*_}
 use mathlib.Core.Bool.{Bool, cond, _&&_, _||_}
 use mathlib.Core.List.{List, [], _++_}
 use lib.Dec.{leb, eqb}
+use Rattle.record.specs.Sound.{lastLine}
 use Rattle.network.specs.Plmn.{mostCode}
 use Rattle.address.specs.Address.{isVersion}
 use Rattle.network.specs.declared.MaybePlmn.{MaybePlmn}
@@ -11,10 +12,7 @@ use Rattle.place.specs.declared.Facts.{Facts}
 use Rattle.place.specs.declared.Place.{Place}
 use Rattle.place.specs.declared.Place.the-variants.{Unknown, Home, Abroad}
 
--- a built name is written to a name buffer of at least so many octets, a listing to one of at least so many
-abbrev pub nameRoom : ℕ
-nameRoom = 64
-
+-- a listing is written to a buffer of at least so many octets
 abbrev pub listingRoom : ℕ
 listingRoom = 1024
 
@@ -29,13 +27,6 @@ mostError = 16_383
 -- the last time that a call may carry
 abbrev pub lastTime : ℕ
 lastTime = 4_294_967_295
-
--- the highest tenant, and the highest line of a tenant
-abbrev pub lastTenant : ℕ
-lastTenant = 15
-
-abbrev pub lastLine : ℕ
-lastLine = 3
 
 -- the numbers of a start: the place and the visited MCC, whether registered and to which PLMN, the local IP version
 pub record StartNumbers : Type 0 where
@@ -121,7 +112,7 @@ startNumbersFit g =
     && (eqb (g .registered) 1 || eqb (g .registeredMcc) 0 && eqb (g .registeredMnc) 0)
     && isVersion (g .version)
 
--- the facts that a start's numbers say
+-- the facts that a start's numbers say; a place that is none of the three is refused by 8
 unfoldable pub placeOf : ℕ → ℕ → Place
 placeOf place mcc = cond (eqb place 1) Home (cond (eqb place 2) (Abroad mcc) Unknown)
 

@@ -8,6 +8,7 @@ use lib.ListN.{length}
 use Rattle.octets.specs.Digits.{be}
 use Rattle.octets.specs.Part.{padded, zeros}
 use Rattle.text.specs.Text.{digitText, text}
+use Rattle.rules.specs.Run.{bare}
 use Rattle.rules.specs.Answer.{Action, Answer, listed, numbersOf}
 use Rattle.rules.specs.Call.{StartNumbers, Event, start, begin, init, eap, reply, final, congestion, Call, opening, timed}
 
@@ -167,7 +168,8 @@ congest time x timer =
 
 -- open and close: accepted, refused by a number
 unfoldable pub done : Answer
-done = record { refusal = 0; numbers = []; part = []; buffer = [] }
+unfolding bare
+done = bare
 
 unfoldable pub denied : ℕ → Answer
 denied n = record { refusal = n; numbers = []; part = []; buffer = [] }

@@ -19,6 +19,7 @@ use Rattle.phase.specs.Stage as Stage
 use Rattle.place.specs.declared.Facts.{Facts}
 use Rattle.record.specs.Octets.{recordLength}
 use Rattle.record.specs.Line.{Line}
+use Rattle.record.specs.Sound.{lastLine}
 use Rattle.response.specs.Laws as Response
 use Rattle.selection.specs.Selection as Selection
 use Rattle.selection.specs.Stops.{Ends, Exactly, addresses, countryReached, startReached}
@@ -26,7 +27,7 @@ use Rattle.table.specs.Slots.{isOpen, lineAt, slotsOf, openPairs}
 use Rattle.table.specs.Table.{isTable, recordOf, slot, tableLength, recordCount}
 use Rattle.rules.specs.After.{After, LiveBy, SureBy, ownRecord}
 use Rattle.rules.specs.Answer.{Answer, numbersOf, roomOf}
-use Rattle.rules.specs.Call.{StartNumbers, Event, start, country, address, child-made, child-deleted, Call, opening, closing, listing, timed, factsOf, pairOf, lastTime}
+use Rattle.rules.specs.Call.{StartNumbers, Event, start, country, address, child-made, child-deleted, Call, opening, closing, listing, timed, factsOf, pairOf, lastTime, listingRoom}
 use Rattle.rules.specs.Computed.{got, said}
 use Rattle.rules.specs.Computed as Computed
 use Rattle.rules.specs.FormExamples as FormExamples
@@ -80,12 +81,12 @@ pub record NoRow (c : Call) (v : View) : Type 0 where
   pub row-13 : onLine isHeldFull c v ≡ false
 
 -- a number is given exactly where its row applies and no lower one does
-pub record GivenExactly (n : ℕ) (c : Call) (l : List ℕ) (row : Bool) : Type 0 where
+pub record GivenExactly (n : ℕ) (c : Call) (l : List ℕ) (applies : Bool) : Type 0 where
   -- where the number is given its row applies, and no lower number does
-  pub only-then : numberGiven c l ≡ n → row ≡ true
+  pub only-then : numberGiven c l ≡ n → applies ≡ true
   pub none-lower : numberGiven c l ≡ n → (m : ℕ) → m < n → Applies m (refusals c (viewIn c l)) → ⊥
   -- where its row applies that number is given, or a lower one
-  pub always-then : row ≡ true → (1 ≤ numberGiven c l) × (numberGiven c l ≤ n)
+  pub always-then : applies ≡ true → (1 ≤ numberGiven c l) × (numberGiven c l ≤ n)
 
 -- the table row by row
 pub record GivenRows (c : Call) (l : List ℕ) (v : View) : Type 0 where
@@ -108,11 +109,15 @@ pub record Good (l : List ℕ) : Type 0 where
   pub sound : isTable l ≡ true
   pub octets : allOf (below 256) l ≡ true
 
+-- the line of a pair (tenant, line)
+abbrev pub lineIn : List ℕ → ℕ → ℕ → Option Line
+lineIn l tenant line = lineAt (pairOf tenant line) (slotsOf l)
+
 -- two sound tables in which a tenant has equal lines and the same pairs are open, in whichever records they sit
 pub record Alike (a : ℕ) (l m : List ℕ) : Type 0 where
   pub left : Good l
   pub right : Good m
-  pub lines : (line : ℕ) → line < 4 → lineAt (pairOf a line) (slotsOf l) ≡ lineAt (pairOf a line) (slotsOf m)
+  pub lines : (line : ℕ) → line ≤ lastLine → lineIn l a line ≡ lineIn m a line
   pub opened : (pair : ℕ) → 1 ≤ pair → isOpen pair (slotsOf l) ≡ isOpen pair (slotsOf m)
 
 -- how many numbers the answer of a call has: twelve, none for open and close
@@ -128,10 +133,6 @@ pub record Left (c : Call) (l : List ℕ) (r : Result) : Type 0 where
   pub numbers : r .answer .numbers ≡ zeros (countOf c)
   pub part : r .answer .part ≡ []
   pub buffer : r .answer .buffer ≡ zeros (roomOf c)
-
--- the line of a pair (tenant, line)
-unfoldable pub lineIn : List ℕ → ℕ → ℕ → Option Line
-lineIn l tenant line = lineAt (pairOf tenant line) (slotsOf l)
 
 -- where an answer says that selection stopped
 unfoldable pub stopSaid : Answer → Option ℕ
@@ -190,9 +191,9 @@ pub record Claims : Type 0 where
       → (lineIn (run (timed tenant line time (child-deleted spi)) l .table) tenant line ≡ some (withChildren (current time x) (only (isOther spi) (x .children))))
       × (suc (length (only (isOther spi) (x .children))) ≡ length (x .children))
   -- whatever the call, a line is live only if it was or is now authenticated, and sure only if it was or EAP now succeeded
-  pub live-authenticated : (c : Call) (l : List ℕ) (tenant line : ℕ) (y : Line) → isOctets c ≡ true → Good l → line ≤ 3
+  pub live-authenticated : (c : Call) (l : List ℕ) (tenant line : ℕ) (y : Line) → isOctets c ≡ true → Good l → line ≤ lastLine
       → lineIn (run c l .table) tenant line ≡ some y → isIn Stage.live (y .phase) ≡ true → LiveBy c tenant line (lineIn l tenant line)
-  pub sure-succeeded : (c : Call) (l : List ℕ) (tenant line : ℕ) (y : Line) → isOctets c ≡ true → Good l → line ≤ 3
+  pub sure-succeeded : (c : Call) (l : List ℕ) (tenant line : ℕ) (y : Line) → isOctets c ≡ true → Good l → line ≤ lastLine
       → lineIn (run c l .table) tenant line ≡ some y → isIn Stage.sure (y .phase) ≡ true → SureBy c tenant line (lineIn l tenant line)
   -- an accepted timed call stores its time and drops the ended holds; only congestion adds a hold, only a child made adds a child
   pub timed-after : (tenant line time : ℕ) (e : Event) (l : List ℕ) (x : Line) → Timed tenant line time e l x
@@ -211,9 +212,9 @@ pub record Claims : Type 0 where
   pub taken-over-clean : (tenant line : ℕ) (l : List ℕ) → Good l → numberGiven (opening tenant line) l ≡ 0
       → lineIn (run (opening tenant line) l .table) tenant line ≡ some fresh
   -- and its tenant's listing says so: the lines as they were, with this one among them
-  pub taken-over-listed : (tenant line room : ℕ) (l : List ℕ) → Good l → numberGiven (opening tenant line) l ≡ 0 → 1024 ≤ room
+  pub taken-over-listed : (tenant line room : ℕ) (l : List ℕ) → Good l → numberGiven (opening tenant line) l ≡ 0 → listingRoom ≤ room
       → run (listing tenant room) (run (opening tenant line) l .table) .answer .buffer
-      ≡ padded room (listFrom 0 (set (row (ownLine tenant (slotsOf l)) 0 4) line (some fresh)))
+      ≡ padded room (listFrom 0 (set (row (ownLine tenant (slotsOf l)) 0 (suc lastLine)) line (some fresh)))
   -- the answer to every call has its count of numbers, and its buffer has the length that was lent, so that what is written fits it
   pub answer-count : (c : Call) (l : List ℕ) → length (run c l .answer .numbers) ≡ countOf c
   pub answer-room : (c : Call) (l : List ℕ) → length (run c l .answer .buffer) ≡ roomOf c
@@ -243,4 +244,4 @@ pub record Claims : Type 0 where
   -- the numbers that examples compute are the definitions' own
   pub evaluated : (l : List ℕ) → Computed.evaluated l ≡ l
   -- document 01's starred examples
-  pub starred : map Starred.got Starred.starred ≡ map Starred.said Starred.starred
+  pub starred : map Starred.starredGot Starred.starred ≡ map Starred.starredSaid Starred.starred

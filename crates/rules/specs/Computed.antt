@@ -34,6 +34,7 @@ use Rattle.phase.specs.Stage.{isIn}
 use Rattle.phase.specs.Stage as Stage
 use Rattle.record.specs.Sound as Sound
 use Rattle.table.specs.Slots as TableSlots
+use Rattle.table.specs.Table.{recordCount}
 use Rattle.rules.specs.Call as RulesCall
 use Rattle.rules.specs.Answer as RulesAnswer
 use Rattle.rules.specs.Phases as RulesPhases
@@ -50,7 +51,7 @@ use Rattle.rules.specs.Call.{Call}
 use Rattle.rules.specs.OnSlots.{answersOn, runOn}
 
 unfoldable pub empty : List Slot
-empty = replicate 32 Free
+empty = replicate recordCount Free
 
 -- the slots that a history leaves
 unfoldable pub slotsOn : List Call → List Slot → List Slot
@@ -111,7 +112,7 @@ unfolding empty slotsOn
     RulesRefusals.refusalsOf RulesRefusals.eventRefusals RulesRefusals.refusals
     RulesLife.current RulesLife.inPhase RulesLife.goes RulesLife.onward RulesLife.keeps RulesLife.gatewayFound RulesLife.nameAsked
     RulesLife.decided RulesLife.started RulesLife.countryAnswered RulesLife.addressAnswered RulesLife.packetTaken RulesLife.replied RulesLife.finished
-    RulesLife.ended RulesLife.timerHold RulesLife.chosenHold RulesLife.congested RulesLife.withChildren RulesLife.isOther RulesLife.becomes
+    RulesLife.ended RulesLife.timerHold RulesLife.chosenHold RulesLife.congested RulesLife.withChildren RulesLife.isOther
     RulesLife.outcome
     RulesListing.tab RulesListing.newline RulesListing.word RulesListing.addressText RulesListing.childText RulesListing.lineText RulesListing.listFrom
     RulesRun.bare RulesRun.answerOf RulesRun.timedStep RulesRun.step

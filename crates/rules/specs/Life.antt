@@ -62,9 +62,13 @@ pub record Outcome : Type 0 where
 unfoldable pub inPhase : Line → Phase → Line
 inPhase x p = record { time = x .time; phase = p; holds = x .holds; children = x .children }
 
--- a phase and an action, with nothing returned or written
+-- a line and an action, with nothing returned or written
+abbrev pub becomes : Line → Action → Outcome
+becomes x action = record { line = x; action = action; part = []; written = [] }
+
+-- the same line in another phase, and an action
 unfoldable pub goes : Line → Phase → Action → Outcome
-goes x p action = record { line = inPhase x p; action = action; part = []; written = [] }
+goes x p action = becomes (inPhase x p) action
 
 -- stands where a refusal comes first, so that no accepted call gets there
 abbrev pub unreached : Line → Outcome
@@ -176,10 +180,6 @@ withChildren x cs = record { time = x .time; phase = x .phase; holds = x .holds;
 
 unfoldable pub isOther : ℕ → Child → Bool
 isOther spi c = not (isSpi spi c)
-
--- a line and an action, with nothing returned or written
-unfoldable pub becomes : Line → Action → Outcome
-becomes x action = record { line = x; action = action; part = []; written = [] }
 
 -- one clause for each row of the table; the line is the one that the call finds, its time stored and without its ended holds
 unfoldable pub outcome : Event → Line → Outcome

@@ -8,6 +8,7 @@ use Rattle.octets.specs.Row.{joined}
 use Rattle.address.specs.Address.{numberOf, versionOf, widthOf}
 use Rattle.address.specs.declared.Address.{Address}
 use Rattle.children.specs.declared.Child.{Child}
+use Rattle.entry.specs.Pieces.{newlineCode, tabCode}
 use Rattle.phase.specs.Stage.{Stage, stageOf}
 use Rattle.phase.specs.Stage as Stage
 use Rattle.record.specs.Line.{Line}
@@ -16,10 +17,10 @@ use Rattle.text.specs.Text.{text, decimal, digitText}
 
 -- a tab between fields, a newline after a record
 unfoldable pub tab : List ℕ
-tab = 9 ∷ []
+tab = tabCode ∷ []
 
 unfoldable pub newline : List ℕ
-newline = 10 ∷ []
+newline = newlineCode ∷ []
 
 -- the phase word as in the table in 'Life of a line'
 unfoldable pub word : Stage → String

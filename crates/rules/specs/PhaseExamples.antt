@@ -34,12 +34,12 @@ unfolding evaluated events refusalNow slotsAfter
 tried before = evaluated (map (refusalNow (slotsAfter before)) events)
 
 -- a mark for each event: x where it is accepted, 8 where it is refused by 8, a dot where it isn't allowed in this phase
-unfoldable pub numberOf : ℕ → ℕ
-numberOf c = cond (eqb c 120) 0 (cond (eqb c 56) 8 10)
+unfoldable pub markNumber : ℕ → ℕ
+markNumber c = cond (eqb c 120) 0 (cond (eqb c 56) 8 10)
 
 unfoldable pub marks : String → List ℕ
-unfolding numberOf
-marks s = map numberOf (text s)
+unfolding markNumber
+marks s = map markNumber (text s)
 
 -- the calls that bring a line to a phase, and the marks there
 pub record Phased : Type 0 where

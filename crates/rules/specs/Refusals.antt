@@ -22,11 +22,13 @@ use Rattle.phase.specs.Stage.{isIn}
 use Rattle.phase.specs.Stage as Stage
 use Rattle.phase.specs.declared.Phase.{Phase}
 use Rattle.place.specs.declared.Facts.{Facts}
+use Rattle.network.specs.Name.{nameRoom}
+use Rattle.record.specs.Sound.{lastTenant, lastLine}
 use Rattle.record.specs.Line.{Line}
 use Rattle.response.specs.Response.{lentOutOfRange, replyRoom}
 use Rattle.selection.specs.Selection.{homeAbroad}
 use Rattle.rules.specs.Answer.{roomOf}
-use Rattle.rules.specs.Call.{Event, start, country, address, begin, init, eap, reply, final, error, congestion, give-up, child-made, child-deleted, ike-delete, Call, opening, closing, listing, timed, factsOf, lastLine, lastTenant, lastTime, listingRoom, mostError, mostText, nameRoom, startNumbersFit}
+use Rattle.rules.specs.Call.{Event, start, country, address, begin, init, eap, reply, final, error, congestion, give-up, child-made, child-deleted, ike-delete, Call, opening, closing, listing, timed, factsOf, lastTime, listingRoom, mostError, mostText, startNumbersFit}
 use Rattle.rules.specs.Phases.{factsIn, isFirst, lastReply, owed, turnIn, underway}
 use Rattle.rules.specs.View.{View, lineFound, lineOr, lineSeen}
 

@@ -20,7 +20,7 @@ use Rattle.rules.specs.Cases.{atHome, congest, named, node, now, own, sh
 use Rattle.rules.specs.Computed.{answersAfter, counted, evaluated}
 
 -- what the definitions give, and what document 01 says
-pub record Example : Type 0 where
+pub record StarredExample : Type 0 where
   pub gives : List ℕ
   pub says : List ℕ
 
@@ -44,7 +44,7 @@ buffers before calls = joined bufferOf (answersAfter before calls)
 unfoldable pub three : List Address
 three = V6 0x20010db800000000 1 ∷ V4 0xc0000201 ∷ V4 0xc0000207 ∷ []
 
-unfoldable pub starred : List Example
+unfoldable pub starred : List StarredExample
 unfolding atHome buffers congest counted foundNumbers gists named node now own packetNumbers shown three timerNumbers toAnswered toFirst
     toIdle toName twelve
 starred =
@@ -107,13 +107,13 @@ starred =
     }
     ∷ []
 
-unfoldable pub got : Example → List ℕ
+unfoldable pub starredGot : StarredExample → List ℕ
 unfolding evaluated
-got e = evaluated (e .gives)
+starredGot e = evaluated (e .gives)
 
-unfoldable pub said : Example → List ℕ
-said e = e .says
+unfoldable pub starredSaid : StarredExample → List ℕ
+starredSaid e = e .says
 
-pub computed : map got starred ≡ map said starred
-unfolding starred got said
+pub computed : map starredGot starred ≡ map starredSaid starred
+unfolding starred starredGot starredSaid
 computed = refl

@@ -1,4 +1,4 @@
--- The claim `stops-exactly`: selection stops exactly where the step that it reached has nothing that is permitted, and with that step's number.
+-- The claim `StopsExactly`: selection stops exactly where the step that it reached has nothing that is permitted, and with that step's number.
 use Prim.Native.Nat.{ℕ}
 use mathlib.Core.Bool.{true, false}
 use mathlib.Core.List.{List, [], _∷_}

@@ -7,7 +7,7 @@ use Rattle.octets.specs.Part.{padded}
 use Rattle.timer.specs.declared.Timer.{Timer}
 use Rattle.timer.specs.declared.Timer.the-variants.{None, Seconds, Deactivated}
 
--- units 0 to 6 in seconds: ten minutes, one hour, ten hours, two seconds, thirty seconds, one minute, 320 hours
+-- units 0 to 6 in seconds, unit 7 being no length of time: ten minutes, one hour, ten hours, two seconds, thirty seconds, one minute, 320 hours
 unfoldable pub unitSeconds : ℕ → ℕ
 unitSeconds unit =
     cond (eqb unit 0) 600
