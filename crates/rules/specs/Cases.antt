@@ -58,7 +58,7 @@ startNumbers place mcc registered rmcc rmnc version = record {
   version = version;
 }
 
--- at home with each local IP version, abroad in a country, and abroad in 901 with a registered PLMN
+-- at home and abroad in a country with each local IP version, and abroad in 901 with a registered PLMN
 unfoldable pub atHome : StartNumbers
 unfolding startNumbers
 atHome = startNumbers 1 0 0 0 0 4
@@ -70,6 +70,10 @@ atHome6 = startNumbers 1 0 0 0 0 6
 unfoldable pub abroad : ℕ → StartNumbers
 unfolding startNumbers
 abroad mcc = startNumbers 2 mcc 0 0 0 4
+
+unfoldable pub abroad6 : ℕ → StartNumbers
+unfolding startNumbers
+abroad6 mcc = startNumbers 2 mcc 0 0 0 6
 
 unfoldable pub registeredTo : ℕ → ℕ → StartNumbers
 unfolding startNumbers

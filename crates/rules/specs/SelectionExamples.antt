@@ -10,7 +10,7 @@ use Rattle.octets.specs.Row.{joined}
 use Rattle.text.specs.Text.{text}
 use Rattle.rules.specs.Answer.{Action, Answer, stopped, ask-country, ask-text, ask-built, chose}
 use Rattle.rules.specs.Call.{StartNumbers, start, country, address, Call}
-use Rattle.rules.specs.Cases.{abroad, acts, atHome, atHome6, congest, startNumbers, named, network, node, now, plain, registeredTo, roaming, shown, toIdle, toName, writes}
+use Rattle.rules.specs.Cases.{abroad, abroad6, acts, atHome, atHome6, congest, startNumbers, named, network, node, node6, now, plain, registeredTo, roaming, shown, toIdle, toName, writes}
 use Rattle.rules.specs.Computed.{Example, got, said}
 
 -- a stop and a choice leave the name buffer all zeros and the part empty; a built name is both the part and what is written
@@ -31,11 +31,20 @@ unfoldable pub starting : StartNumbers → List ℕ → Answer → Example
 unfolding now toIdle
 starting g text answer = record { before = toIdle; calls = now (start g text 64) ∷ []; says = answer ∷ [] }
 
+-- a start, and the country answer without a PLMN that follows it
+unfoldable pub starts : StartNumbers → List ℕ → List Call
+unfolding now toIdle
+starts g text = toIdle ++ now (start g text 64) ∷ []
+
+unfoldable pub startsAbroad : StartNumbers → List ℕ → List Call
+unfolding now starts
+startsAbroad g text = starts g text ++ now (country 1 [] text 64) ∷ []
+
 -- what the country answer answers, with the text that start had
 unfoldable pub answering : StartNumbers → List ℕ → ℕ → List ℕ → Answer → Example
-unfolding now toIdle
+unfolding now starts
 answering g text replied networks answer = record {
-  before = toIdle ++ now (start g text 64) ∷ [];
+  before = starts g text;
   calls = now (country replied networks text 64) ∷ [];
   says = answer ∷ [];
 }
@@ -46,8 +55,8 @@ unfolding acts now
 choosing before list action = record { before = before; calls = now (address (joined addressOctets list)) ∷ []; says = acts action ∷ [] }
 
 unfoldable pub selections : List Example
-unfolding abroad answering asks asksCountry atHome atHome6 congest startNumbers gives choosing named network node now plain registeredTo roaming shown
-    starting toIdle toName writes
+unfolding abroad abroad6 answering asks asksCountry atHome atHome6 congest startNumbers gives choosing named network node node6 now plain registeredTo
+    roaming shown starting starts startsAbroad toIdle toName writes
 selections =
     -- S1, place unknown: stop 1
     starting (startNumbers 0 0 0 0 0 4) node (gives (stopped 1 0))
@@ -80,23 +89,31 @@ selections =
     ∷ answering (abroad 901) roaming 0 [] (gives (stopped 2 0))
     -- none: the best of the `plmn` records with the visited MCC and not barred, the earlier record on a tie
     ∷ answering (abroad 901) roaming 1 [] (asks "n3iwf.5gc.mnc002.mcc901.pub.3gppnetwork.org")
+    -- priorities are compared as numbers, of one digit, two or three
+    ∷ answering (abroad 901) (plain ++ shown "plmn|901|01|10" ++ shown "plmn|901|02|9") 1 [] (asks "n3iwf.5gc.mnc002.mcc901.pub.3gppnetwork.org")
+    ∷ answering (abroad 901) (plain ++ shown "plmn|901|01|100" ++ shown "plmn|901|02|99") 1 [] (asks "n3iwf.5gc.mnc002.mcc901.pub.3gppnetwork.org")
     -- none, and no such record: as S2
     ∷ answering (abroad 903) roaming 1 [] (asks "n3iwf.5gc.mnc001.mcc262.pub.3gppnetwork.org")
     ∷ answering (abroad 901) named 1 [] (writes 64 (ask-text 22 13) (text "n3iwf.example") [])
     ∷ answering (abroad 901) node 1 [] (gives (chose (V4 0xc0000207) 0))
+    ∷ answering (abroad6 901) node6 1 [] (gives (chose (V6 0x20010db800000000 1) 0))
     -- one or more: the registered PLMN if listed and not barred
     ∷ answering (registeredTo 901 9) roaming 1 (network 901 2 ++ network 901 9) (asks "n3iwf.5gc.mnc009.mcc901.pub.3gppnetwork.org")
     ∷ answering (registeredTo 901 4) roaming 1 (network 901 4 ++ network 901 1) (asks "n3iwf.5gc.mnc001.mcc901.pub.3gppnetwork.org")
     ∷ answering (registeredTo 901 9) roaming 1 (network 901 1 ++ network 901 8) (asks "n3iwf.5gc.mnc001.mcc901.pub.3gppnetwork.org")
+    -- the home PLMN counts as none, here too
+    ∷ answering (registeredTo 262 1) plain 1 (network 901 8 ++ network 262 1) (asks "n3iwf.5gc.mnc008.mcc901.pub.3gppnetwork.org")
     -- whether the registered PLMN counts as none is decided by each call's own text
     ∷ record {
-      before = toIdle ++ now (start (registeredTo 262 1) plain 64) ∷ [];
+      before = starts (registeredTo 262 1) plain;
       calls = now (country 1 (network 262 2 ++ network 262 1) (shown "home|263|01") 64) ∷ [];
       says = asks "n3iwf.5gc.mnc001.mcc262.pub.3gppnetwork.org" ∷ [];
     }
     -- else the listed, unbarred PLMN of best priority, on a tie the earlier record and not the earlier in the list
     ∷ answering (abroad 901) roaming 1 (network 901 8 ++ network 901 1 ++ network 901 3) (asks "n3iwf.5gc.mnc003.mcc901.pub.3gppnetwork.org")
     ∷ answering (abroad 901) roaming 1 (network 901 3 ++ network 901 2) (asks "n3iwf.5gc.mnc002.mcc901.pub.3gppnetwork.org")
+    -- a listed PLMN of another country counts like the others
+    ∷ answering (abroad 901) roaming 1 (network 901 8 ++ network 902 1) (asks "n3iwf.5gc.mnc001.mcc902.pub.3gppnetwork.org")
     -- else the first listed unbarred one, else stop 3
     ∷ answering (abroad 901) roaming 1 (network 901 4 ++ network 901 8 ++ network 901 7) (asks "n3iwf.5gc.mnc008.mcc901.pub.3gppnetwork.org")
     ∷ answering (abroad 901) roaming 1 (network 901 4) (gives (stopped 3 0))
@@ -105,7 +122,15 @@ selections =
     -- S5: the first with the local IP version is chosen, and the answer says how many were passed over
     ∷ choosing toName (V4 0xc0000207 ∷ V4 0xc0000208 ∷ []) (chose (V4 0xc0000207) 0)
     ∷ choosing toName (V6 1 2 ∷ V6 1 3 ∷ V4 0xc0000207 ∷ []) (chose (V4 0xc0000207) 2)
-    ∷ choosing (toIdle ++ now (start atHome6 named 64) ∷ []) (V4 0xc0000207 ∷ V6 1 3 ∷ []) (chose (V6 1 3) 1)
+    -- also more than two, and one address twice
+    ∷ choosing toName (V6 1 2 ∷ V6 1 2 ∷ V6 1 3 ∷ V4 0xc0000207 ∷ []) (chose (V4 0xc0000207) 3)
+    -- the local IP version is the start's, whichever name was asked, at home and abroad
+    ∷ choosing (starts atHome6 named) (V4 0xc0000207 ∷ V6 1 3 ∷ []) (chose (V6 1 3) 1)
+    ∷ choosing (starts atHome6 plain) (V4 0xc0000207 ∷ V6 1 3 ∷ []) (chose (V6 1 3) 1)
+    ∷ choosing (startsAbroad (abroad6 901) plain) (V4 0xc0000207 ∷ V6 1 3 ∷ []) (chose (V6 1 3) 1)
+    ∷ choosing (startsAbroad (abroad6 901) named) (V4 0xc0000207 ∷ V6 1 3 ∷ []) (chose (V6 1 3) 1)
+    ∷ choosing (startsAbroad (abroad 901) plain) (V6 1 3 ∷ V4 0xc0000207 ∷ []) (chose (V4 0xc0000207) 1)
+    ∷ choosing (starts (startNumbers 2 901 1 901 2 6) roaming) (V4 0xc0000207 ∷ V6 1 3 ∷ []) (chose (V6 1 3) 1)
     -- if there is none, stop 4 with all of them passed over
     ∷ choosing toName [] (stopped 4 0)
     ∷ choosing toName (V6 1 2 ∷ V6 1 3 ∷ []) (stopped 4 2)
