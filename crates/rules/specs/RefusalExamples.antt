@@ -12,6 +12,7 @@ use Rattle.rules.specs.Answer.{nothing, stopped, ask-country, ask-built,
 use Rattle.rules.specs.Call.{StartNumbers, start, country, address, begin, init, reply, final, error, congestion, give-up, child-made, child-deleted, Call, opening, closing, listing, timed}
 use Rattle.rules.specs.Cases.{abroad, acts, atHome, declined, declines, denied, done, firstReply, startNumbers, lists, nas, network, node, now, own, parameters, plain, roaming, shown, toChosen, toCountry, toFirst, toIdle, toLive, toName, toSure, writes}
 use Rattle.rules.specs.Computed.{Example, got, said}
+use Rattle.rules.specs.HoldExamples.{holdEach}
 
 -- each of the 64 pairs is opened by its number
 unfoldable pub openPair : ℕ → Call
@@ -28,8 +29,8 @@ unfolding startNumbers
 worst tenant line time room = timed tenant line time (start (startNumbers 3 0 0 0 0 4) [] room)
 
 unfoldable pub lowest : List Example
-unfolding acts atHome declined declines denied done firstReply lists nas node now openPair own parameters plain abroad shown toChosen
-    toFirst toIdle worst writes
+unfolding acts atHome declined declines denied done firstReply holdEach lists nas node now openPair own parameters plain abroad shown
+    startNumbers toChosen toFirst toIdle worst writes
 lowest =
     -- 2: tenant above 15 or line above 3
     record {
@@ -82,6 +83,14 @@ lowest =
       calls = own 200 init ∷ own 150 begin ∷ own 149 give-up ∷ own 150 give-up ∷ [];
       says = declined 10 ∷ acts send-init ∷ declined 7 ∷ acts nothing ∷ [];
     }
+    -- 13: start, and eight holds are in force; below it 7, 8 and 9, and another event is 10
+    ∷ record {
+      before = toIdle ++ holdEach 1 8;
+      calls =
+          own 99 (start atHome node 64) ∷ now (start (startNumbers 3 0 0 0 0 4) node 64) ∷ now (start atHome [] 64) ∷ now begin
+          ∷ now (start atHome node 64) ∷ [];
+      says = declines 64 7 ∷ declines 64 8 ∷ declines 64 9 ∷ declined 10 ∷ declines 64 13 ∷ [];
+    }
     -- the lowest number that applies is given
     ∷ record {
       before = toChosen;
@@ -117,7 +126,7 @@ ranges =
           (text "n3iwf.5gc.mcc999.visited-country.pub.3gppnetwork.org")
           ∷ [];
     }
-    -- that is 8 in every phase, and so is empty or over-long NAS
+    -- also where the event isn't allowed in this phase: abroad with the home MCC, NAS empty or over-long
     ∷ record {
       before = toLive;
       calls = startGiven (startNumbers 2 262 0 0 0 4) ∷ now (reply parameters [] 3090) ∷ now (reply parameters (zeros 2049) 3090) ∷ [];
@@ -127,6 +136,12 @@ ranges =
     ∷ record {
       before = toIdle;
       calls = now (start atHome (zeros 1025) 64) ∷ now (start atHome (zeros 1024) 64) ∷ [];
+      says = declines 64 8 ∷ declines 64 9 ∷ [];
+    }
+    -- with the country answer too
+    ∷ record {
+      before = toCountry;
+      calls = now (country 1 [] (zeros 1025) 64) ∷ now (country 1 [] (zeros 1024) 64) ∷ [];
       says = declines 64 8 ∷ declines 64 9 ∷ [];
     }
     -- a time is 0 to 4,294,967,295
