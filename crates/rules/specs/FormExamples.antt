@@ -1,9 +1,11 @@
 -- Histories of well-formed and ill-formed texts and packets, and of children, each under the sentence that it shows.
-use Prim.Native.Nat.{ℕ}
+use Prim.Native.Nat.{ℕ, _+_}
 use Prim.Native.String.{String}
 use mathlib.Core.List.{List, [], _∷_, _++_, map}
 use mathlib.Core.Path.{_≡_, refl}
 use lib.ListN.{replicate}
+use Rattle.octets.specs.Digits.{be}
+use Rattle.octets.specs.Part.{zeros}
 use Rattle.octets.specs.Row.{joined, row}
 use Rattle.text.specs.Text.{digitText, text}
 use Rattle.rules.specs.Answer.{Answer, nothing, ask-built, ask-text, ask-nas, hand-up}
@@ -27,6 +29,7 @@ illFormed =
     ∷ ("home|262" ∷ [])
     ∷ ("home|262|01|" ∷ [])
     ∷ ("home|26|01" ∷ [])
+    ∷ ("home|2620|01" ∷ [])
     ∷ ("home|262|1" ∷ [])
     ∷ ("home|262|0001" ∷ [])
     ∷ ("Home|262|01" ∷ [])
@@ -60,11 +63,21 @@ unfoldable pub startFull : ℕ → ℕ → Call
 unfolding atHome barRecord now plain plmnRecord
 startFull n m = now (start atHome (plain ++ joined plmnRecord (row (λ k. k) 0 n) ++ joined barRecord (row (λ k. k) 0 m)) 64)
 
+-- a name of n letters
+unfoldable pub startNamed : ℕ → Call
+unfolding atHome now plain
+startNamed n = now (start atHome (plain ++ text "node" ++ 9 ∷ text "name" ++ 9 ∷ replicate n 97 ++ 10 ∷ []) 64)
+
 -- an EAP-5G packet with identifier 7 by its code, length, type, last octet of the vendor, message, spare, and what follows
 unfoldable pub packet : ℕ → ℕ → ℕ → ℕ → ℕ → ℕ → List ℕ → Call
 unfolding now
 packet code size type vendor message spare rest =
     now (eap (code ∷ 7 ∷ 0 ∷ size ∷ type ∷ 0x00 ∷ 0x28 ∷ vendor ∷ 0 ∷ 0 ∷ 0 ∷ 3 ∷ message ∷ spare ∷ rest))
+
+-- a NAS request with n NAS octets
+unfoldable pub nasRequest : ℕ → Call
+unfolding now
+nasRequest n = now (eap ((0x01 ∷ 7 ∷ []) ++ be 2 (16 + n) ++ (0xFE ∷ 0x00 ∷ 0x28 ∷ 0xAF ∷ 0 ∷ 0 ∷ 0 ∷ 3 ∷ 2 ∷ 0 ∷ []) ++ be 2 n ++ zeros n))
 
 -- children by their SPI
 unfoldable pub makeChild : ℕ → Call
@@ -72,8 +85,8 @@ unfolding now
 makeChild spi = now (child-made spi 1)
 
 unfoldable pub forms : List Example
-unfolding acts atHome declined declines startNumbers illFormed laterReply makeChild nas now packet startBy startFull startRefused toAnswered toAuth
-    toCountry toFirst toIdle toLive writes
+unfolding acts atHome declined declines startNumbers illFormed laterReply makeChild nas nasRequest now packet startBy startFull startNamed startRefused
+    toAnswered toAuth toCountry toFirst toIdle toLive writes
 forms =
     -- 9: a configuration text that isn't well formed
     record { before = toIdle; calls = map startBy illFormed; says = map startRefused illFormed }
@@ -104,20 +117,34 @@ forms =
       calls = startBy ("home|262|001" ∷ "node|name|N3-iwf.x" ∷ "plmn|901|01|0" ∷ "plmn|901|100|255" ∷ "bar|901|01" ∷ []) ∷ [];
       says = writes 64 (ask-text 23 8) (text "N3-iwf.x") [] ∷ [];
     }
+    -- and 1 to 253 of them
+    ∷ record {
+      before = toIdle;
+      calls = startNamed 254 ∷ startNamed 253 ∷ [];
+      says = declines 64 9 ∷ writes 64 (ask-text 22 253) (replicate 253 97) [] ∷ [];
+    }
     -- 9: every packet but Start, NAS requests and Success, here with another code, length, type, vendor or message
     ∷ record {
       before = toAuth;
       calls =
           packet 3 14 254 0xAF 1 0 [] ∷ packet 1 13 254 0xAF 1 0 [] ∷ packet 1 14 253 0xAF 1 0 [] ∷ packet 1 14 254 0xAE 1 0 []
           ∷ packet 1 14 254 0xAF 3 0 [] ∷ packet 2 14 254 0xAF 4 0 [] ∷ now (eap laterReply) ∷ now (eap []) ∷ now (eap (4 ∷ 7 ∷ 0 ∷ 4 ∷ []))
-          ∷ now (eap (3 ∷ 7 ∷ 0 ∷ 5 ∷ [])) ∷ now (eap (3 ∷ 7 ∷ 0 ∷ 5 ∷ 0 ∷ [])) ∷ [];
-      says = replicate 11 (declined 9);
+          ∷ now (eap (3 ∷ 7 ∷ 0 ∷ 5 ∷ [])) ∷ now (eap (3 ∷ 7 ∷ 0 ∷ 5 ∷ 0 ∷ [])) ∷ now (eap (3 ∷ 7 ∷ 0 ∷ 4 ∷ 0 ∷ []))
+          -- Start without its spare octet
+          ∷ now (eap (0x01 ∷ 7 ∷ 0 ∷ 13 ∷ 0xFE ∷ 0x00 ∷ 0x28 ∷ 0xAF ∷ 0 ∷ 0 ∷ 0 ∷ 3 ∷ 1 ∷ [])) ∷ [];
+      says = replicate 13 (declined 9);
     }
     -- NAS that is empty or runs past the end is 9
     ∷ record {
       before = toAnswered;
       calls = packet 1 16 254 0xAF 2 0 (0 ∷ 0 ∷ []) ∷ packet 1 17 254 0xAF 2 0 (0 ∷ 2 ∷ 0x7E ∷ []) ∷ packet 1 14 254 0xAF 2 0 [] ∷ [];
       says = replicate 3 (declined 9);
+    }
+    -- NAS has at most 2,048 octets, longer is 9
+    ∷ record {
+      before = toAnswered;
+      calls = nasRequest 2049 ∷ nasRequest 2048 ∷ [];
+      says = declined 9 ∷ writes 0 (hand-up 16 2048) (zeros 2048) [] ∷ [];
     }
     -- extensions are skipped and spare is ignored, in Start too; NAS is handed up as the part of the packet that holds it
     ∷ record { before = toAuth; calls = packet 1 16 254 0xAF 1 0 (9 ∷ 9 ∷ []) ∷ []; says = acts ask-nas ∷ [] }
