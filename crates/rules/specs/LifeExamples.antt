@@ -6,7 +6,7 @@ use mathlib.Core.Path.{_≡_, refl}
 use Rattle.address.specs.Address.{high, low, numberOf, versionOf}
 use Rattle.address.specs.declared.Address.the-variants.{V4, V6}
 use Rattle.rules.specs.Answer.{Action, nothing, stopped, ask-country, ask-text, ask-built, chose, send-init, send-auth-request, ask-nas, hand-up, send-response, send-auth, live, released, error-up, listed, numbersOf, twelve}
-use Rattle.rules.specs.Call.{Event, start, begin, init, eap, reply, final, error, congestion, give-up, child-made, child-deleted, ike-delete, Call, opening, closing, listing}
+use Rattle.rules.specs.Call.{Event, start, begin, init, eap, reply, final, error, congestion, give-up, child-made, child-deleted, ike-delete, Call, opening, closing, listing, timed}
 use Rattle.rules.specs.Cases.{acts, atHome, atHome6, declined, done, firstReply, lists, nas, nasPacket, node, node6, now, own, parameters, shown, startPacket, success, toAnswered, toAuth, toChosen, toCountry, toFirst, toIdle, toInit, toLive, toName, toOwed, toSure, writes, laterReply}
 use Rattle.rules.specs.Computed.{Example, got, said}
 
@@ -33,8 +33,15 @@ unfoldable pub toChildren : List Call
 unfolding toChild
 toChildren = toChild ++ now (child-made 0x100 15) ∷ []
 
+-- the same call on another pair (tenant, line)
+unfoldable pub moved : ℕ → ℕ → Call → Call
+moved tenant line (opening a b) = opening tenant line
+moved tenant line (closing a b) = closing tenant line
+moved tenant line (listing a room) = listing tenant room
+moved tenant line (timed a b time e) = timed tenant line time e
+
 unfoldable pub lives : List Example
-unfolding acts atHome atHome6 declined done ending firstReply laterReply lists nas nasPacket node node6 now own parameters shown standing
+unfolding acts atHome atHome6 declined done ending firstReply laterReply lists moved nas nasPacket node node6 now own parameters shown standing
     startPacket success toAnswered toAuth toChild toChildren toChosen toCountry toFirst toIdle toInit toLive toName toOwed toSure writes
 lives =
     -- from start to live with two children: each event is accepted in its phase, with its action
@@ -63,8 +70,25 @@ lives =
           lists (shown "line|0|live|c0000207|2" ++ shown "child|0|0000c0de|5" ++ shown "child|0|00000100|15") ∷ acts nothing
           ∷ lists (shown "line|0|live|c0000207|1" ++ shown "child|0|00000100|15") ∷ [];
     }
+    -- a child record has its line
+    ∷ record {
+      before = map (moved 0 2) toChildren ++ toChild;
+      calls = listing 0 1024 ∷ [];
+      says =
+          lists
+          (shown "line|0|live|c0000207|1" ++ shown "child|0|0000c0de|5" ++ shown "line|2|live|c0000207|2" ++ shown "child|2|0000c0de|5"
+          ++ shown "child|2|00000100|15")
+          ∷ [];
+    }
     -- no open line: no octets, accepted; another tenant's lines are not listed
-    ∷ record { before = toChild; calls = listing 1 1024 ∷ []; says = lists [] ∷ [] }
+    ∷ record {
+      before = toChild ++ map (moved 1 3) toChildren ++ map (moved 15 1) toCountry ++ map (moved 1 0) toIdle;
+      calls = listing 0 1024 ∷ listing 1 1024 ∷ listing 2 1024 ∷ listing 15 1024 ∷ [];
+      says =
+          lists (shown "line|0|live|c0000207|1" ++ shown "child|0|0000c0de|5")
+          ∷ lists (shown "line|0|idle|-|0" ++ shown "line|3|live|c0000207|2" ++ shown "child|3|0000c0de|5" ++ shown "child|3|00000100|15")
+          ∷ lists [] ∷ lists (shown "line|1|country|-|0") ∷ [];
+    }
     -- an address of version 6 has 32 digits
     ∷ standing (toIdle ++ now (start atHome6 node6 64) ∷ []) "line|0|chosen|20010db8000000000000000000000001|0"
     -- the phase after each event, with the chosen address from the choice on
@@ -123,7 +147,7 @@ pub lives-computed : map got lives ≡ map said lives
 unfolding lives got said
 lives-computed = refl
 
--- every action, in the order of the numbers that name actions
+-- every action in the order of the numbers that name actions, and last a listing, whose number is 0
 unfoldable pub actions : List Action
 actions =
     nothing ∷ stopped 4 2 ∷ ask-country 52 ∷ ask-text 22 13 ∷ ask-built 43 ∷ chose (V4 5) 2 ∷ chose (V6 8 9) 1 ∷ send-init ∷ send-auth-request
