@@ -44,6 +44,7 @@ use Rattle.rules.specs.Refusals.{hasNoRoom, isAllowed, isEarly, isFull, 
 use Rattle.rules.specs.View.{View, fresh, lineFound, ownLine, viewIn}
 use Rattle.rules.specs.OnSlots.{runOn}
 use Rattle.rules.specs.SelectionExamples as SelectionExamples
+use Rattle.rules.specs.SoundExamples as SoundExamples
 use Rattle.rules.specs.Starred as Starred
 
 -- the number that a call gives
@@ -235,6 +236,8 @@ pub record Claims : Type 0 where
   -- holds, and those that histories leave
   pub holdings : map got HoldExamples.holdings ≡ map said HoldExamples.holdings
   pub kept : map HoldExamples.keptFound HoldExamples.kept ≡ map HoldExamples.keptSaid HoldExamples.kept
+  -- lines on both sides of each condition of a sound one
+  pub sounds : map SoundExamples.soundFound SoundExamples.sounds ≡ map SoundExamples.soundSaid SoundExamples.sounds
   -- if the same calls remain after striking out the other tenants' calls that are neither open nor close, a tenant gets the same answers
   pub isolation : (a : ℕ) (g h : List Call) → allOf isOctets g ≡ true → allOf isOctets h ≡ true → remaining a g ≡ remaining a h
       → answersTo a g (zeros tableLength) ≡ answersTo a h (zeros tableLength)

@@ -17,6 +17,7 @@ pub mod SelectionExamples
 pub mod RefusalExamples
 pub mod FormExamples
 pub mod HoldExamples
+pub mod SoundExamples
 pub mod Starred
 pub mod After
 pub mod Claims

@@ -8,6 +8,7 @@ use Rattle.rules.specs.LifeExamples.{actions-computed, lives-computed}
 use Rattle.rules.specs.PhaseExamples.{phases-computed}
 use Rattle.rules.specs.RefusalExamples.{lowest-computed, ranges-computed}
 use Rattle.rules.specs.SelectionExamples.{selections-computed}
+use Rattle.rules.specs.SoundExamples.{sounds-computed}
 use Rattle.rules.specs.Starred.{computed}
 use Rattle.rules.proofs.After.{timed-after}
 use Rattle.rules.proofs.Authenticated.{live-authenticated, sure-succeeded}
@@ -69,6 +70,7 @@ returns c = record {
   forms = forms-computed;
   holdings = holds-computed;
   kept = kept-computed;
+  sounds = sounds-computed;
   isolation = isolation;
   isolation-from = isolation-from;
   evaluated = evaluated-is;
