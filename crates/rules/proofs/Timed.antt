@@ -1,13 +1,14 @@
 -- What an accepted timed call on a line answers and leaves.
-use Prim.Native.Nat.{ℕ}
+use Prim.Native.Nat.{ℕ, _≤_}
 use mathlib.Core.Bool.{Bool, cond}
 use mathlib.Core.List.{List, [], _∷_}
 use mathlib.Core.Option.{Option, none, some}
 use mathlib.Core.Path.{_≡_, refl, sym, ap, _∙_, subst}
 use native.Mathlib.Omega.{arith}
 use lib.Dec.{eqb, ltb}
-use borrow.Author.Tests.{eq-eqb}
+use borrow.Author.Tests.{eq-eqb, ltb-false}
 use Rattle.octets.specs.Refusal.{refusal}
+use Rattle.octets.proofs.Search.{or-left}
 use Rattle.address.specs.Address.{heldAddresses}
 use Rattle.address.specs.declared.Address.{Address}
 use Rattle.config.specs.Settings.{Settings, configOf}
@@ -26,12 +27,12 @@ use Rattle.table.specs.Slots.{lineAt, pairIn, slotLine, slotsOf}
 use Rattle.table.specs.Table.{isTable}
 use Rattle.rules.specs.Answer.{numbersOf, twelve}
 use Rattle.rules.specs.Call.{StartNumbers, Event, start, country, address, Call, timed, factsOf, lastTime, pairOf, tenantOf}
-use Rattle.rules.specs.Claims.{NoRow, Timed, lineIn, stopSaid}
+use Rattle.rules.specs.Claims.{NoRow, Timed, isPastLast, lineIn, onLine, stopSaid}
 use Rattle.rules.specs.Life.{Outcome, addressAnswered, countryAnswered, nameAsked, current, decided, gatewayFound, goes, outcome, started}
 use Rattle.rules.specs.Phases.{factsIn}
-use Rattle.rules.specs.Refusals.{refusalsOf}
+use Rattle.rules.specs.Refusals.{isEarly, isOutOfRange, refusalsOf}
 use Rattle.rules.specs.Run.{Result, Step, answerOf, run, step, stepOf, timedStep}
-use Rattle.rules.specs.View.{View, lineFound, lineOr, viewIn}
+use Rattle.rules.specs.View.{View, lineFound, lineOr, lineSeen, viewIn}
 use Rattle.rules.proofs.Accepted.{event-number, own-is, ready, timed-pair}
 use Rattle.rules.proofs.Acts.{act-line, lineAfter}
 use Rattle.rules.proofs.Refused.{given-is, no-row}
@@ -55,10 +56,21 @@ module _ (tenant line time : ℕ) (e : Event) (l : List ℕ) (x : Line) (t : Tim
   no-refusal : NoRow c v
   no-refusal = no-row c v no-number
 
+  own-seen : lineSeen v line ≡ some x
+  unfolding viewIn tenantOf lineIn
+  own-seen = own-is tenant line (timed-pair tenant line time e v no-refusal) (slotsOf l) (isTable l) ∙ t .stands
+
   own-line : lineFound line time v ≡ current time x
-  unfolding viewIn tenantOf lineFound lineOr
-  own-line =
-      ap (λ (o : Option Line). current time (lineOr o)) (own-is tenant line (timed-pair tenant line time e v no-refusal) (slotsOf l) (isTable l) ∙ t .stands)
+  unfolding lineFound lineOr
+  own-line = ap (λ (o : Option Line). current time (lineOr o)) own-seen
+
+  -- the time isn't earlier than the line's, and not past the last one
+  pub times-rise : (x .time ≤ time) × (time ≤ lastTime)
+  unfolding isEarly isPastLast lineOr
+  times-rise =
+      let early = ap (λ (o : Option Line). ltb time (lineOr o .time)) (sym own-seen) ∙ no-refusal .row-7 in
+      let late = or-left (isPastLast c) (onLine isOutOfRange c v) (no-refusal .row-8) in
+      (ltb-false time (x .time) early, ltb-false lastTime time late)
 
   -- the step is that of the line
   line-step : stepOf c l ≡ timedStep tenant line e (current time x)

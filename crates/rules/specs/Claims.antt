@@ -199,6 +199,8 @@ pub record Claims : Type 0 where
   -- an accepted timed call stores its time and drops the ended holds; only congestion adds a hold, only a child made adds a child
   pub timed-after : (tenant line time : ℕ) (e : Event) (l : List ℕ) (x : Line) → Timed tenant line time e l x
       → After e time x (lineIn (run (timed tenant line time e) l .table) tenant line)
+  -- an accepted timed call's time is not earlier than the line's, and not past the last one
+  pub times-rise : (tenant line time : ℕ) (e : Event) (l : List ℕ) (x : Line) → Timed tenant line time e l x → (x .time ≤ time) × (time ≤ lastTime)
   -- every record but the call's own keeps its octets, a listing leaves all records, and the table keeps its length
   pub others-untouched : (c : Call) (l : List ℕ) → isOctets c ≡ true → Good l
       → (j : ℕ) → (ownRecord c l ≡ some j → ⊥) → slot (run c l .table) j ≡ slot l j

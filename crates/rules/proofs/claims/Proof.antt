@@ -18,7 +18,7 @@ use Rattle.rules.proofs.Numbers.{answer-count}
 use Rattle.rules.proofs.Refused.{refusal-leaves, refusal-range, accepted-exactly, refused-exactly, unsound-refused}
 use Rattle.rules.proofs.Rooms.{answer-room}
 use Rattle.rules.proofs.Runs.{closed-zero, run-slots, run-sound, taken-over-clean, taken-over-listed}
-use Rattle.rules.proofs.Timed.{stops-address, stops-country, stops-start, timed-run}
+use Rattle.rules.proofs.Timed.{stops-address, stops-country, stops-start, timed-run, times-rise}
 use Rattle.rules.proofs.Tunnels.{tunnels-deleted, tunnels-live, tunnels-made}
 use Rattle.rules.proofs.Untouched.{length-kept, listing-leaves, others-untouched}
 use Rattle.rules.proofs.Views.{room-exactly}
@@ -46,6 +46,7 @@ returns c = record {
   live-authenticated = live-authenticated;
   sure-succeeded = sure-succeeded;
   timed-after = timed-after;
+  times-rise = times-rise;
   others-untouched = others-untouched;
   listing-leaves = listing-leaves;
   length-kept = length-kept;
