@@ -15,6 +15,7 @@ pub mod Listings
 pub mod Moves
 pub mod Nodes
 pub mod Numbers
+pub mod PhaseAfter
 pub mod Phases
 pub mod Refused
 pub mod Rooms

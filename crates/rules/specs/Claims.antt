@@ -25,7 +25,7 @@ use Rattle.selection.specs.Selection as Selection
 use Rattle.selection.specs.Stops.{Ends, Exactly, addresses, countryReached, startReached}
 use Rattle.table.specs.Slots.{isOpen, lineAt, slotsOf, openPairs}
 use Rattle.table.specs.Table.{isTable, recordOf, slot, tableLength, recordCount}
-use Rattle.rules.specs.After.{After, LiveBy, SureBy, ownRecord}
+use Rattle.rules.specs.After.{After, LiveBy, PhaseAfter, SureBy, ownRecord}
 use Rattle.rules.specs.Answer.{Answer, numbersOf, roomOf}
 use Rattle.rules.specs.Call.{StartNumbers, Event, start, country, address, child-made, child-deleted, Call, opening, closing, listing, timed, factsOf, pairOf, lastTime, listingRoom}
 use Rattle.rules.specs.Computed.{got, said}
@@ -199,6 +199,9 @@ pub record Claims : Type 0 where
   -- an accepted timed call stores its time and drops the ended holds; only congestion adds a hold, only a child made adds a child
   pub timed-after : (tenant line time : ℕ) (e : Event) (l : List ℕ) (x : Line) → Timed tenant line time e l x
       → After e time x (lineIn (run (timed tenant line time e) l .table) tenant line)
+  -- an accepted timed call follows a row of 'Life of a line': from the line's phase to the one after, with the action that the answer says
+  pub phase-after : (tenant line time : ℕ) (e : Event) (l : List ℕ) (x : Line) → Timed tenant line time e l x
+      → PhaseAfter e (x .phase) (run (timed tenant line time e) l .answer .numbers) (lineIn (run (timed tenant line time e) l .table) tenant line)
   -- an accepted timed call's time is not earlier than the line's, and not past the last one
   pub times-rise : (tenant line time : ℕ) (e : Event) (l : List ℕ) (x : Line) → Timed tenant line time e l x → (x .time ≤ time) × (time ≤ lastTime)
   -- every record but the call's own keeps its octets, a listing leaves all records, and the table keeps its length

@@ -15,6 +15,7 @@ use Rattle.rules.proofs.Authenticated.{live-authenticated, sure-succeed
 use Rattle.rules.proofs.Histories.{history-sound, history-sound-from}
 use Rattle.rules.proofs.Isolation.{empty-good, isolation, isolation-from}
 use Rattle.rules.proofs.Numbers.{answer-count}
+use Rattle.rules.proofs.PhaseAfter.{phase-after}
 use Rattle.rules.proofs.Refused.{refusal-leaves, refusal-range, accepted-exactly, refused-exactly, unsound-refused}
 use Rattle.rules.proofs.Rooms.{answer-room}
 use Rattle.rules.proofs.Runs.{closed-zero, run-slots, run-sound, taken-over-clean, taken-over-listed}
@@ -46,6 +47,7 @@ returns c = record {
   live-authenticated = live-authenticated;
   sure-succeeded = sure-succeeded;
   timed-after = timed-after;
+  phase-after = phase-after;
   times-rise = times-rise;
   others-untouched = others-untouched;
   listing-leaves = listing-leaves;
