@@ -57,7 +57,7 @@ module _ (tenant line time : ℕ) (e : Event) (l : List ℕ) (x : Line) (t : Tim
   no-refusal = no-row c v no-number
 
   own-seen : lineSeen v line ≡ some x
-  unfolding viewIn tenantOf lineIn
+  unfolding viewIn tenantOf
   own-seen = own-is tenant line (timed-pair tenant line time e v no-refusal) (slotsOf l) (isTable l) ∙ t .stands
 
   own-line : lineFound line time v ≡ current time x
