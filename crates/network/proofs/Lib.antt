@@ -1,2 +1,3 @@
--- The laws of the names, for the proofs of this crate and of those above it.
+-- The laws of the names and PLMNs, for the proofs of this crate and of those above it.
 pub mod Names
+pub mod Plmns

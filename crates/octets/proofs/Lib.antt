@@ -3,6 +3,7 @@ pub mod Counts
 pub mod Digits
 pub mod Elements
 pub mod Fields
+pub mod Firsts
 pub mod Octets
 pub mod Parts
 pub mod Refusals

@@ -1,8 +1,10 @@
 -- Lists of anything: values by number, the elements that pass a test, and the first of them.
-use Prim.Native.Nat.{ℕ, zero, suc}
+use Prim.Native.Nat.{ℕ, zero, suc, _<_}
 use mathlib.Core.Bool.{Bool, true, false, cond}
 use mathlib.Core.List.{List, [], _∷_, _++_}
 use mathlib.Core.Option.{Option, none, some}
+use mathlib.Core.Path.{_≡_}
+use lib.ListN.{getElem?}
 
 module _ {A : Type 0} where
   -- n values of f, the one at k first
@@ -39,3 +41,13 @@ module _ {A : Type 0} where
   unfoldable pub isSome : Option A → Bool
   isSome none = false
   isSome (some x) = true
+
+  -- a is the element at k, it passes, and no element before it does
+  pub record FirstAt (p : A → Bool) (l : List A) (k : ℕ) (a : A) : Type 0 where
+    pub there : getElem? l k ≡ some a
+    pub passes : p a ≡ true
+    pub none-before : (j : ℕ) (b : A) → j < k → getElem? l j ≡ some b → p b ≡ false
+
+  -- no element passes
+  abbrev pub NonePasses : (A → Bool) → List A → Type 0
+  NonePasses p l = (j : ℕ) (b : A) → getElem? l j ≡ some b → p b ≡ false
