@@ -1,2 +1,3 @@
 -- Choosing an address of the gateway.
 pub mod Gateway
+pub mod Laws

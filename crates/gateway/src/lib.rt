@@ -12,6 +12,7 @@ ghost use lib.ListN.{take};
 ghost use Rattle.address.specs.Address.{heldAddresses, mostHolds};
 ghost use Rattle.lists.specs.Lists.{addressesIn};
 ghost use Rattle.gateway.specs.Gateway.{choose};
+ghost use Rattle.gateway.specs.Laws.{Laws};
 
 // What a list of addresses gives.
 pub enum Found {
@@ -48,3 +49,8 @@ pub fn choose_one(a: Address, local: u64, holds: [Hold; HOLDS], n: usize) -> Fou
     }
     Found::Nothing(1)
 }
+
+// Does nothing; its promise is the laws of this crate's definitions.
+pub fn laws()
+    ensures { λ _. ⌜ Laws ⌝ }
+{}
