@@ -17,6 +17,7 @@ ghost use Rattle.network.specs.Plmn.{among, plmnOption};
 ghost use Rattle.config.specs.Settings.{mostListed, Counted, settingsIn};
 ghost use Rattle.lists.specs.Lists.{networksIn};
 ghost use Rattle.preference.specs.Branch.{whereFound};
+ghost use Rattle.preference.specs.Laws.{Laws};
 ghost use Rattle.preference.specs.Preference.{barred, best, better, eligible, hasPlmns, networkOf, offered, preferred, provisioned, ranked, unranked, visited};
 
 // Whether there is a record among the first n.
@@ -171,3 +172,8 @@ pub fn unranked(config: Config, networks: &[u8]) -> MaybePlmn
     }
     MaybePlmn::None
 }
+
+// Does nothing; its promise is the laws of this crate's definitions.
+pub fn laws()
+    ensures { λ _. ⌜ Laws ⌝ }
+{}
