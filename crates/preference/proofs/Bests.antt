@@ -1,11 +1,11 @@
 -- What is offered, in words; the best record of those that pass is of the lowest priority number and the earliest on a tie.
 use Prim.Native.Nat.{ℕ, zero, suc, _≤_, _<_}
-use mathlib.Core.Bool.{Bool, true, false, not, _&&_, false≢true}
+use mathlib.Core.Bool.{Bool, true, false, not, false≢true}
 use mathlib.Core.List.{List, [], _∷_, nil≢cons}
 use mathlib.Core.Option.{Option, none, some, Option·none-ne-some, Option·some-injective}
 use mathlib.Core.Path.{_≡_, refl, sym, ap, _∙_, subst}
 use native.Mathlib.Omega.{arith}
-use lib.Dec.{leb, eqb}
+use lib.Dec.{leb}
 use lib.ListN.{getElem?}
 use borrow.Author.Tests.{eq-eqb, eqb-true, leb-true, leb-false, not-true}
 use Rattle.octets.specs.Row.{first, keep, only, FirstAt, NonePasses}

@@ -6,12 +6,12 @@ use mathlib.Core.Option.{Option, none, some}
 use mathlib.Core.Path.{_≡_, refl, sym, ap, ap₂, _∙_}
 use lib.Dec.{eqb}
 use lib.ListN.{drop}
-use borrow.Author.Tests.{eq-eqb, eqb-true}
 use Rattle.octets.specs.Search.{anyOf}
 use Rattle.octets.specs.Row.{place, first, keep, only}
-use Rattle.octets.proofs.Search.{and-left, and-right, and-true, or-true}
+use Rattle.octets.proofs.Search.{or-true}
 use Rattle.network.specs.Plmn.{samePlmn, among}
 use Rattle.network.specs.declared.Plmn.{Plmn}
+use Rattle.network.proofs.Plmns.{self-plmn, plmn-same}
 use Rattle.address.specs.Address.{numberOf, permitted, sameAddress, stands, versionOf}
 use Rattle.address.specs.declared.Address.{Address}
 use Rattle.address.proofs.Numbers.{same-parts, same-self}
@@ -136,17 +136,6 @@ module _ (s : Settings) (version : ℕ) (held : List Address) where
   picked none (some p) o₃ n e = absurd (not-there e)
   picked none none (some p) n e = absurd (not-there e)
   picked none none none n e = (same-number e, refl)
-
--- a network that stands in a list
-self-plmn : (p : Plmn) → samePlmn p p ≡ true
-unfolding samePlmn
-self-plmn p = and-true (eqb (p .mcc) (p .mcc)) (eqb (p .mnc) (p .mnc)) (eq-eqb (p .mcc) (p .mcc) refl) (eq-eqb (p .mnc) (p .mnc) refl)
-
-plmn-same : (p q : Plmn) → samePlmn p q ≡ true → p ≡ q
-unfolding samePlmn
-plmn-same p q e =
-    ap₂ (λ (m n : ℕ). record { mcc = m; mnc = n }) (eqb-true (p .mcc) (q .mcc) (and-left (eqb (p .mcc) (q .mcc)) (eqb (p .mnc) (q .mnc)) e))
-    (eqb-true (p .mnc) (q .mnc) (and-right (eqb (p .mcc) (q .mcc)) (eqb (p .mnc) (q .mnc)) e))
 
 module _ (s : Settings) where
   -- every listed network is barred

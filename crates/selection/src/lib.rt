@@ -19,6 +19,7 @@ ghost use Rattle.config.specs.Settings.{Counted, settingsIn};
 ghost use Rattle.lists.specs.Lists.{networksIn};
 ghost use Rattle.selection.specs.Selection.{abroad, countryReply, askOr, atHome, counting, country, direct, homeAbroad, ifListed, oneOrMore, start};
 ghost use Rattle.preference.specs.Preference.{ranked};
+ghost use Rattle.selection.specs.Networks.{NetworkExactly};
 ghost use Rattle.selection.specs.Stops.{StopsExactly};
 
 // What is done next.
@@ -188,4 +189,9 @@ pub fn country(config: Config, facts: Facts, replied: bool, networks: &[u8]) -> 
 // Does nothing; its promise is the claim `stops-exactly`.
 pub fn stops()
     ensures { λ _. ⌜ StopsExactly ⌝ }
+{}
+
+// Does nothing; its promise is the claim `network-exactly`.
+pub fn networks()
+    ensures { λ _. ⌜ NetworkExactly ⌝ }
 {}
