@@ -1,6 +1,6 @@
 -- What is offered, in words; the best record of those that pass is of the lowest priority number and the earliest on a tie.
 use Prim.Native.Nat.{ℕ, zero, suc, _≤_, _<_}
-use mathlib.Core.Bool.{Bool, true, false, not, false≢true}
+use mathlib.Core.Bool.{Bool, true, false, cond, not, false≢true}
 use mathlib.Core.List.{List, [], _∷_, nil≢cons}
 use mathlib.Core.Option.{Option, none, some, Option·none-ne-some, Option·some-injective}
 use mathlib.Core.Path.{_≡_, refl, sym, ap, _∙_, subst}
@@ -58,6 +58,15 @@ module _ (s : Settings) (ps : List Plmn) (place : Place) (x : Preferred) where
   unfolding eligible unbarred barred plmnIn
   eligible-always c = and-true (offered ps place (x .plmn)) (free s (x .plmn)) (offered-always ps place (x .plmn) (c .on-offer)) (ap not (c .not-barred))
 
+-- of two records the earlier one where its priority number is not above the other's, and the later one where it is
+better-is : {R : Type 0} (z y x : Preferred) → better z (some y) ≡ x → (z ≡ x → z .priority ≤ y .priority → R) → (y ≡ x → y .priority < z .priority → R) → R
+unfolding better
+better-is {R} z y x e earlier later = go (leb (z .priority) (y .priority)) refl e
+  where
+    go : (t : Bool) → leb (z .priority) (y .priority) ≡ t → cond t z y ≡ x → R
+    go true n q = earlier q (leb-true (z .priority) (y .priority) n)
+    go false n q = later q (leb-false (z .priority) (y .priority) n)
+
 -- the best of the records that pass
 module _ (p : Preferred → Bool) where
   abbrev passing : Preferred → Type 0
@@ -113,26 +122,19 @@ module _ (p : Preferred → Bool) where
           (suc (rest .0), behind z l (rest .0) x (λ t. absurd (false≢true (sym m ∙ t))) (rest .1))
       go true m rec = from (best (only p l)) refl
         where
-          here : some (better z (best (only p l))) ≡ some x
-          here = sym (rw m) ∙ e
+          is-best : better z (best (only p l)) ≡ x
+          is-best = Option·some-injective (better z (best (only p l))) x (sym (rw m) ∙ e)
 
-          -- the record in front is the one
-          front : better z (best (only p l)) ≡ z → ((j : ℕ) (y : Preferred) → getElem? l j ≡ some y → passing y → z .priority ≤ y .priority)
-              → (i : ℕ) × BestAt passing (z ∷ l) i x
-          front q h = (0, subst (λ (r : Preferred). BestAt passing (z ∷ l) 0 r) (sym q ∙ Option·some-injective (better z (best (only p l))) x here) (ahead z l m h))
+          front : z ≡ x → ((j : ℕ) (y : Preferred) → getElem? l j ≡ some y → passing y → z .priority ≤ y .priority) → (i : ℕ) × BestAt passing (z ∷ l) i x
+          front same h = (0, subst (λ (r : Preferred). BestAt passing (z ∷ l) 0 r) same (ahead z l m h))
 
           from : (o : Option Preferred) → best (only p l) ≡ o → (i : ℕ) × BestAt passing (z ∷ l) i x
-          from none q = front (rw q) (λ j y r t. absurd (false≢true (sym (none-passes l (best-none l q) j y r) ∙ t)))
-          from (some y) q = by-priority (leb (z .priority) (y .priority)) refl
-            where
-              rest : (i : ℕ) × BestAt passing l i y
-              rest = rec y q
-
-              by-priority : (t : Bool) → leb (z .priority) (y .priority) ≡ t → (i : ℕ) × BestAt passing (z ∷ l) i x
-              by-priority true n = front (rw (q, n)) (λ j w r t. let a = leb-true (z .priority) (y .priority) n in let b = rest .1 .none-better j w r t in omega arith)
-              by-priority false n =
-                  let same : y ≡ x = sym (rw (q, n)) ∙ Option·some-injective (better z (best (only p l))) x here in
-                  (suc (rest .0), subst (λ (r : Preferred). BestAt passing (z ∷ l) (suc (rest .0)) r) same (behind z l (rest .0) y (λ t. leb-false (z .priority) (y .priority) n) (rest .1)))
+          from none q = front (sym (ap (better z) q) ∙ is-best) (λ j y r t. absurd (false≢true (sym (none-passes l (best-none l q) j y r) ∙ t)))
+          from (some y) q =
+              let rest = rec y q in
+              better-is z y x (sym (ap (better z) q) ∙ is-best)
+              (λ same least. front same (λ j w r t. let above = rest .1 .none-better j w r t in omega arith))
+              (λ same lower. (suc (rest .0), subst (λ (r : Preferred). BestAt passing (z ∷ l) (suc (rest .0)) r) same (behind z l (rest .0) y (λ t. lower) (rest .1))))
 
 -- records that pass are those that may be picked
 carried : {M N : Preferred → Type 0} → ((y : Preferred) → M y → N y) → ((y : Preferred) → N y → M y) → (l : List Preferred) (i : ℕ) (x : Preferred) → BestAt M l i x → BestAt N l i x
