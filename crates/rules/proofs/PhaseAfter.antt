@@ -42,7 +42,7 @@ use Rattle.rules.specs.After as After
 use Rattle.rules.specs.Answer.{Action, Answer, ask-nas, hand-up, live, nothing, numbersOf, released, send-auth, send-auth-request, send-init, twelve}
 use Rattle.rules.specs.Call.{StartNumbers, Event, start, country, address, begin, init, eap, reply, final, error, congestion, give-up, child-made, child-deleted, ike-delete, timed, factsOf, lastTime}
 use Rattle.rules.specs.Claims.{Timed, lineIn}
-use Rattle.rules.specs.Life.{addressAnswered, becomes, congested, countryAnswered, current, decided, ended, finished, gatewayFound, goes, inPhase, keeps, nameAsked, onward, outcome, packetTaken, replied, started, withChildren}
+use Rattle.rules.specs.Life.{addressAnswered, congested, countryAnswered, current, decided, ended, finished, gatewayFound, goes, inPhase, keeps, nameAsked, onward, outcome, packetTaken, replied, started, withChildren}
 use Rattle.rules.specs.Phases.{factsIn, lastReply, owed, turnIn, underway}
 use Rattle.rules.specs.Refusals.{isAllowed, isDue, isMalformed, isNumber, isOutOfRange}
 use Rattle.rules.specs.Run.{answerOf, run}
