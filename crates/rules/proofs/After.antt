@@ -76,14 +76,14 @@ module _ (x : Line) where
   -- one clause for each row of the table
   steps : (e : Event) → Step e x (outcome e x .line)
   unfolding outcome holdAdded childrenAfter keeps goes inPhase congested withChildren
-  steps (start g t room) = by-phase (start g t room) (started-goes x (factsOf g) t (configOf t) .only-phase) refl refl
+  steps (start g t room) = by-phase (start g t room) (started-goes x (factsOf g) t (configOf t)) refl refl
   steps (country n networks t room) =
-      by-phase (country n networks t room) (answered-goes x (factsIn (x .phase)) (Selection.countryReply (eqb n 1) (networksIn networks)) t (configOf t) .only-phase) refl refl
-  steps (address list) = by-phase (address list) (addressed-goes x (factsIn (x .phase)) (addressesIn list) .only-phase) refl refl
+      by-phase (country n networks t room) (answered-goes x (factsIn (x .phase)) (Selection.countryReply (eqb n 1) (networksIn networks)) t (configOf t)) refl refl
+  steps (address list) = by-phase (address list) (addressed-goes x (factsIn (x .phase)) (addressesIn list)) refl refl
   steps begin = by-phase begin refl refl refl
   steps init = by-phase init refl refl refl
   steps (eap packet) = by-phase (eap packet) (packet-phase packet (readPacket packet)) refl refl
-  steps (reply parameters nas room) = by-phase (reply parameters nas room) (replied-goes x parameters nas (owed (turnIn (x .phase))) .only-phase) refl refl
+  steps (reply parameters nas room) = by-phase (reply parameters nas room) (replied-goes x parameters nas (owed (turnIn (x .phase)))) refl refl
   steps (final good) = by-phase (final good) (finished-phase _) refl refl
   steps (error number) = by-phase (error number) refl refl refl
   steps (congestion authenticated timer) = record {

@@ -13,25 +13,21 @@ use Rattle.rules.specs.View.{fresh, viewIn}
 use Rattle.octets.specs.Row.{isSome}
 use Rattle.octets.proofs.Search.{either}
 use Rattle.address.specs.declared.Address.{Address}
-use Rattle.config.specs.Settings.{configOf}
 use Rattle.eap.specs.Packet.{readPacket}
-use Rattle.eap.specs.declared.Packet.{Packet}
-use Rattle.eap.specs.declared.Packet.the-variants.{Start, NasRequest, Success, NasResponse, Stop, Other}
-use Rattle.lists.specs.Lists.{addressesIn, networksIn}
+use Rattle.eap.specs.declared.Packet.the-variants.{Success}
 use Rattle.phase.specs.Stage.{isIn}
 use Rattle.phase.specs.Stage as Stage
 use Rattle.phase.specs.declared.Phase.{Phase}
-use Rattle.phase.specs.declared.Phase.the-variants.{Idle, Init, Auth, Eap, Sure, Live}
-use Rattle.phase.specs.declared.Turn.the-variants.{First, Owed}
+use Rattle.phase.specs.declared.Phase.the-variants.{Idle, Sure, Live}
+use Rattle.place.specs.declared.Facts.{Facts}
 use Rattle.record.specs.Line.{Line}
-use Rattle.record.specs.Sound.{chosen}
-use Rattle.selection.specs.Selection as Selection
 use Rattle.table.specs.Slots.{lineAt, pairIn, slotLine, slotsOf}
 use Rattle.table.specs.Table.{recordOf}
 use Rattle.table.proofs.Lookups.{open-line}
 use Rattle.table.proofs.Views.{open-found}
-use Rattle.rules.specs.After.{LiveBy, was-live, auth-good, SureBy, was-sure, success}
-use Rattle.rules.specs.Call.{Event, start, country, address, begin, init, eap, reply, final, error, congestion, give-up, child-made, child-deleted, ike-delete, Call, opening, closing, listing, timed, factsOf, pairOf, lastTime}
+use Rattle.rules.specs.After.{Chooses, chooses, finds-none, Decides, asks-text, asks-built, goes-through, stops, Transition, start-asks, start-decides, country-decides, address-answered, begun, init-answered, eap-started, eap-asked, first-replied, later-replied, eap-succeeded, final-good, final-bad, error-notified, congested, given-up, child-added, child-taken, ike-deleted, LiveBy, was-live, auth-good, SureBy, was-sure, success}
+use Rattle.rules.specs.Answer.{Action}
+use Rattle.rules.specs.Call.{Event, eap, final, Call, opening, closing, listing, timed, pairOf, lastTime}
 use Rattle.rules.specs.Claims.{Good, Timed, lineIn}
 use Rattle.rules.specs.Histories.{isOctets}
 use Rattle.rules.specs.Life.{congested, current, finished, goes, inPhase, keeps, onward, outcome, packetTaken, withChildren}
@@ -40,93 +36,75 @@ use Rattle.rules.specs.Refusals.{isDue, isNumber, isAllowed}
 use Rattle.rules.specs.Run.{Result, run, step, stepOf, timedStep}
 use Rattle.rules.proofs.Accepted.{line-range, ready, timed-pair}
 use Rattle.rules.proofs.Acts.{act-line, lineAfter}
-use Rattle.rules.proofs.Goes.{Early, addressed-goes, answered-goes, idle-early, onward-early, replied-goes, started-goes}
+use Rattle.rules.proofs.PhaseAfter.{rows}
 use Rattle.rules.proofs.Refused.{given-is, no-row}
 use Rattle.rules.proofs.Runs.{accepted, number, table-left}
 use Rattle.rules.proofs.Timed.{event-passes, timed-run}
 
--- the phase that an event leads to
+-- a phase that is neither sure nor live
+record Early (p : Phase) : Type 0 where
+  not-sure : isIn Stage.sure p ≡ false
+  not-live : isIn Stage.live p ≡ false
+
+idle-early : Early Idle
+unfolding isIn
+idle-early = record { not-sure = refl; not-live = refl }
+
+chosen-early : {q : Phase} {action : Action} → Chooses q action → Early q
+unfolding isIn
+chosen-early chooses = record { not-sure = refl; not-live = refl }
+chosen-early finds-none = idle-early
+
+decided-early : {f : Facts} {q : Phase} {action : Action} → Decides f q action → Early q
+unfolding isIn
+decided-early asks-text = record { not-sure = refl; not-live = refl }
+decided-early asks-built = record { not-sure = refl; not-live = refl }
+decided-early (goes-through c) = chosen-early c
+decided-early stops = idle-early
+
+-- how a row leads to sure or live
 data Leads (e : Event) (p : Phase) : Phase → Type 0 where
   stays : Leads e p p
   early : {q : Phase} → Early q → Leads e p q
-  succeeds : (packet : List ℕ) (i : ℕ) → e ≡ eap packet → readPacket packet ≡ Success i → Leads e p (onward Sure (chosen p))
-  finishes : e ≡ final 1 → Leads e p (onward Live (chosen p))
+  succeeds : (packet : List ℕ) (i : ℕ) (a : Address) → e ≡ eap packet → readPacket packet ≡ Success i → lastReply (turnIn p) ≡ some i → Leads e p (Sure a)
+  finishes : (a : Address) → e ≡ final 1 → isIn Stage.sure p ≡ true → Leads e p (Live a)
 
-module _ (x : Line) where
-  packet-leads : (packet : List ℕ) (q : Packet) → readPacket packet ≡ q → Leads (eap packet) (x .phase) (packetTaken x packet q .line .phase)
-  unfolding packetTaken keeps goes inPhase isIn
-  packet-leads packet (Start i) r = early (onward-early (λ a. Eap a (First i)) (λ a. record { not-sure = refl; not-live = refl }) (chosen (x .phase)))
-  packet-leads packet (NasRequest i at n) r = early (onward-early (λ a. Eap a (Owed i)) (λ a. record { not-sure = refl; not-live = refl }) (chosen (x .phase)))
-  packet-leads packet (Success i) r = succeeds packet i refl r
-  packet-leads packet (NasResponse i p m at n) r = early idle-early
-  packet-leads packet (Stop i) r = early idle-early
-  packet-leads packet Other r = early idle-early
+leads : {e : Event} {p q : Phase} {action : Action} → Transition e p q action → Leads e p q
+unfolding isIn lastReply turnIn
+leads start-asks = early (record { not-sure = refl; not-live = refl })
+leads (start-decides d) = early (decided-early d)
+leads (country-decides d) = early (decided-early d)
+leads (address-answered c) = early (chosen-early c)
+leads begun = early (record { not-sure = refl; not-live = refl })
+leads init-answered = early (record { not-sure = refl; not-live = refl })
+leads (eap-started r) = early (record { not-sure = refl; not-live = refl })
+leads (eap-asked r) = early (record { not-sure = refl; not-live = refl })
+leads first-replied = early (record { not-sure = refl; not-live = refl })
+leads later-replied = early (record { not-sure = refl; not-live = refl })
+leads (eap-succeeded r) = succeeds _ _ _ refl r refl
+leads final-good = finishes _ refl refl
+leads final-bad = early idle-early
+leads (error-notified u) = early idle-early
+leads (congested u) = early idle-early
+leads (given-up i l) = early idle-early
+leads child-added = stays
+leads child-taken = stays
+leads ike-deleted = early idle-early
 
-  finished-leads : (good : ℕ) (b : Bool) → eqb good 1 ≡ b → Leads (final good) (x .phase) (finished x b .line .phase)
-  unfolding finished keeps goes inPhase
-  finished-leads good true q = finishes (ap final (eqb-true good 1 q))
-  finished-leads good false q = early idle-early
-
-  -- one clause for each row of the table
-  leads : (e : Event) → Leads e (x .phase) (outcome e x .line .phase)
-  unfolding outcome keeps goes inPhase congested withChildren isIn
-  leads (start g t room) = early (started-goes x (factsOf g) t (configOf t) .early)
-  leads (country n networks t room) = early (answered-goes x (factsIn (x .phase)) (Selection.countryReply (eqb n 1) (networksIn networks)) t (configOf t) .early)
-  leads (address list) = early (addressed-goes x (factsIn (x .phase)) (addressesIn list) .early)
-  leads begin = early (onward-early Init (λ a. record { not-sure = refl; not-live = refl }) (chosen (x .phase)))
-  leads init = early (onward-early Auth (λ a. record { not-sure = refl; not-live = refl }) (chosen (x .phase)))
-  leads (eap packet) = packet-leads packet (readPacket packet) refl
-  leads (reply parameters nas room) = early (replied-goes x parameters nas (owed (turnIn (x .phase))) .early)
-  leads (final good) = finished-leads good _ refl
-  leads (error number) = early idle-early
-  leads (congestion authenticated timer) = early idle-early
-  leads give-up = early idle-early
-  leads (child-made spi session) = stays
-  leads (child-deleted spi) = stays
-  leads ike-delete = early idle-early
-
--- a sure line isn't live, and a live one isn't sure
-sure-apart : (o : Option Address) → isIn Stage.live (onward Sure o) ≡ false
-unfolding onward isIn
-sure-apart none = refl
-sure-apart (some a) = refl
-
-live-apart : (o : Option Address) → isIn Stage.sure (onward Live o) ≡ false
-unfolding onward isIn
-live-apart none = refl
-live-apart (some a) = refl
-
-is-number : (i : ℕ) (o : Option ℕ) → isNumber i o ≡ true → o ≡ some i
-unfolding isNumber
-is-number i none h = absurd (false≢true h)
-is-number i (some m) h = ap some (sym (eqb-true i m h))
-
--- an event that isn't refused
-module _ (tenant line time : ℕ) (e : Event) (out : Bool) (x : Line) (free : Passes e out (current time x)) where
-  abbrev c : Call
-  c = timed tenant line time e
-
-  sure-before : e ≡ final 1 → isIn Stage.sure (x .phase) ≡ true
-  unfolding isAllowed current
-  sure-before q = subst (λ (d : Event). isAllowed d (current time x) ≡ true) q (free .allowed)
-
-  reply-before : (packet : List ℕ) (i : ℕ) → e ≡ eap packet → readPacket packet ≡ Success i → lastReply (turnIn (x .phase)) ≡ some i
-  unfolding isAllowed current isDue
-  reply-before packet i q r =
-      let due : isDue (readPacket packet) (x .phase) ≡ true = subst (λ (d : Event). isAllowed d (current time x) ≡ true) q (free .allowed) in
-      is-number i (lastReply (turnIn (x .phase))) (subst (λ (p : Packet). isDue p (x .phase) ≡ true) r due)
-
-  live-by : {p : Phase} → Leads e (x .phase) p → isIn Stage.live p ≡ true → LiveBy c tenant line (some x)
+module _ (tenant line time : ℕ) (x : Line) {e : Event} where
+  live-by : {q : Phase} → Leads e (x .phase) q → isIn Stage.live q ≡ true → LiveBy (timed tenant line time e) tenant line (some x)
+  unfolding isIn
   live-by stays h = was-live x h
   live-by (early f) h = absurd (false≢true (sym (f .not-live) ∙ h))
-  live-by (succeeds packet i q r) h = absurd (false≢true (sym (sure-apart (chosen (x .phase))) ∙ h))
-  live-by (finishes q) h = auth-good x time (ap (timed tenant line time) q) (sure-before q)
+  live-by (succeeds packet i a q r last) h = absurd (false≢true h)
+  live-by (finishes a q before) h = auth-good x time (ap (timed tenant line time) q) before
 
-  sure-by : {p : Phase} → Leads e (x .phase) p → isIn Stage.sure p ≡ true → SureBy c tenant line (some x)
+  sure-by : {q : Phase} → Leads e (x .phase) q → isIn Stage.sure q ≡ true → SureBy (timed tenant line time e) tenant line (some x)
+  unfolding isIn
   sure-by stays h = was-sure x h
   sure-by (early f) h = absurd (false≢true (sym (f .not-sure) ∙ h))
-  sure-by (succeeds packet i q r) h = success x time i packet (ap (timed tenant line time) q) r (reply-before packet i q r)
-  sure-by (finishes q) h = absurd (false≢true (sym (live-apart (chosen (x .phase))) ∙ h))
+  sure-by (succeeds packet i a q r last) h = success x time i packet (ap (timed tenant line time) q) r last
+  sure-by (finishes a q before) h = absurd (false≢true h)
 
 -- how a pair came by the line that it has after a call
 data Came (c : Call) (l : List ℕ) (tenant line : ℕ) (y : Line) : Type 0 where
@@ -226,10 +204,10 @@ module _ (c : Call) (l : List ℕ) (tenant line : ℕ) (y : Line) (octets : isOc
   unfolding current
   live-authenticated =
       known l good tenant line small y (isIn Stage.live) (λ d o. LiveBy d tenant line o) (idle-early .not-live) (λ d x. was-live x)
-      (λ time e x free. live-by tenant line time e (ltb lastTime time) x free (leads (current time x) e)) c came-by
+      (λ time e x free. live-by tenant line time x (leads (rows (current time x) (ltb lastTime time) e free))) c came-by
 
   pub sure-succeeded : isIn Stage.sure (y .phase) ≡ true → SureBy c tenant line (lineIn l tenant line)
   unfolding current
   sure-succeeded =
       known l good tenant line small y (isIn Stage.sure) (λ d o. SureBy d tenant line o) (idle-early .not-sure) (λ d x. was-sure x)
-      (λ time e x free. sure-by tenant line time e (ltb lastTime time) x free (leads (current time x) e)) c came-by
+      (λ time e x free. sure-by tenant line time x (leads (rows (current time x) (ltb lastTime time) e free))) c came-by

@@ -108,7 +108,7 @@ module _ (out : Bool) (x : Line) (v : Valid x) where
 
   keeps-final : (good : ℕ) → Passes (final good) out x → Valid (outcome (final good) x .line)
   unfolding isAllowed outcome
-  keeps-final good p = finished-valid (calm-in (x .phase) Stage.sure refl (p .allowed)) (eqb good 1)
+  keeps-final good p = finished-valid (calm-in (x .phase) Stage.sure refl (p .allowed)) _
 
   keeps-error : (number : ℕ) → Passes (error number) out x → Valid (outcome (error number) x .line)
   unfolding isAllowed outcome goes

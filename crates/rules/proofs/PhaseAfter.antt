@@ -273,7 +273,7 @@ finished-row x good small before false q = bad-row good (let other = eqb-false g
 
 -- one clause for each event
 module _ (x : Line) (out : Bool) where
-  rows : (e : Event) → Passes e out x → Transition e (x .phase) (outcome e x .line .phase) (outcome e x .action)
+  pub rows : (e : Event) → Passes e out x → Transition e (x .phase) (outcome e x .line .phase) (outcome e x .action)
   unfolding outcome isAllowed isMalformed isOutOfRange keeps goes inPhase congested withChildren
   rows (start g text room) h = started-row x g text room (configOf text) (not-false (isSome (configOf text)) (h .well-formed)) (in-stage Stage.idle (x .phase) (h .allowed))
   rows (country n networks text room) h =

@@ -123,7 +123,7 @@ written-fits (eap packet) out x long p = rw (taken-written x packet (readPacket 
 written-fits (reply parameters nas room) out x long p =
     let fit = or-left (lentOutOfRange parameters nas) (lacksParameters parameters (x .phase)) (p .in-range) in
     omega (arith, ltb-false, replied-short x parameters nas fit (owed (turnIn (x .phase))))
-written-fits (final good) out x long p = rw (finished-written x (eqb good 1)) (omega arith)
+written-fits (final good) out x long p = rw finished-written (omega arith)
 written-fits (error n) out x long p = omega arith
 written-fits (congestion authenticated timer) out x long p = omega arith
 written-fits give-up out x long p = omega arith

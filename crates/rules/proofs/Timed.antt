@@ -1,6 +1,6 @@
 -- What an accepted timed call on a line answers and leaves.
 use Prim.Native.Nat.{ℕ, _≤_}
-use mathlib.Core.Bool.{Bool, cond}
+use mathlib.Core.Bool.{Bool, false, cond}
 use mathlib.Core.List.{List, [], _∷_}
 use mathlib.Core.Option.{Option, none, some}
 use mathlib.Core.Path.{_≡_, refl, sym, ap, _∙_, subst}
@@ -68,9 +68,9 @@ module _ (tenant line time : ℕ) (e : Event) (l : List ℕ) (x : Line) (t : Tim
   pub times-rise : (x .time ≤ time) × (time ≤ lastTime)
   unfolding isEarly isPastLast lineOr
   times-rise =
-      let early = ap (λ (o : Option Line). ltb time (lineOr o .time)) (sym own-seen) ∙ no-refusal .row-7 in
-      let late = or-left (isPastLast c) (onLine isOutOfRange c v) (no-refusal .row-8) in
-      (ltb-false time (x .time) early, ltb-false lastTime time late)
+      let tested : ltb time (lineOr (lineSeen v line) .time) ≡ false = no-refusal .row-7 in
+      let in-range : ltb lastTime time ≡ false = or-left (isPastLast c) (onLine isOutOfRange c v) (no-refusal .row-8) in
+      (ltb-false time (x .time) (ap (λ (o : Option Line). ltb time (lineOr o .time)) (sym own-seen) ∙ tested), ltb-false lastTime time in-range)
 
   -- the step is that of the line
   line-step : stepOf c l ≡ timedStep tenant line e (current time x)
