@@ -25,14 +25,13 @@ use Rattle.table.specs.Slots.{lineAt, pairIn, slotLine, slotsOf}
 use Rattle.table.specs.Table.{recordOf}
 use Rattle.table.proofs.Lookups.{open-line}
 use Rattle.table.proofs.Views.{open-found}
-use Rattle.rules.specs.After.{Chooses, chooses, finds-none, Decides, asks-text, asks-built, goes-through, stops, Transition, start-asks, start-decides, country-decides, address-answered, begun, init-answered, eap-started, eap-asked, first-replied, later-replied, eap-succeeded, final-good, final-bad, error-notified, congested, given-up, child-added, child-taken, ike-deleted, LiveBy, was-live, auth-good, SureBy, was-sure, success}
+use Rattle.rules.specs.After.{Chooses, chooses, finds-none, Decides, asks-text, asks-built, goes-through, stops, Transition, start-asks, start-decides, country-decides, address-answered, begun, init-answered, eap-started, eap-asked, first-replied, later-replied, eap-succeeded, final-good, final-bad, error-notified, congestion-told, given-up, child-added, child-taken, ike-deleted, LiveBy, was-live, auth-good, SureBy, was-sure, success}
 use Rattle.rules.specs.Answer.{Action}
 use Rattle.rules.specs.Call.{Event, eap, final, Call, opening, closing, listing, timed, pairOf, lastTime}
 use Rattle.rules.specs.Claims.{Good, Timed, lineIn}
 use Rattle.rules.specs.Histories.{isOctets}
-use Rattle.rules.specs.Life.{congested, current, finished, goes, inPhase, keeps, onward, outcome, packetTaken, withChildren}
-use Rattle.rules.specs.Phases.{factsIn, lastReply, owed, turnIn}
-use Rattle.rules.specs.Refusals.{isDue, isNumber, isAllowed}
+use Rattle.rules.specs.Life.{current, outcome}
+use Rattle.rules.specs.Phases.{lastReply, turnIn}
 use Rattle.rules.specs.Run.{Result, run, step, stepOf, timedStep}
 use Rattle.rules.proofs.Accepted.{line-range, ready, timed-pair}
 use Rattle.rules.proofs.Acts.{act-line, lineAfter}
@@ -85,7 +84,7 @@ leads (eap-succeeded r) = succeeds _ _ _ refl r refl
 leads final-good = finishes _ refl refl
 leads final-bad = early idle-early
 leads (error-notified u) = early idle-early
-leads (congested u) = early idle-early
+leads (congestion-told u) = early idle-early
 leads (given-up i l) = early idle-early
 leads child-added = stays
 leads child-taken = stays

@@ -289,7 +289,7 @@ module _ (x : Line) (out : Bool) where
   rows (congestion authenticated timer) h =
       let known = eqb-true authenticated 1 (and-left (eqb authenticated 1) (underway (x .phase)) (h .allowed)) in
       let ends = is-underway (x .phase) (and-right (eqb authenticated 1) (underway (x .phase)) (h .allowed)) in
-      subst (λ (n : ℕ). Transition (congestion n timer) (x .phase) Idle (released (ended (x .phase)))) (sym known) (After.congested ends)
+      subst (λ (n : ℕ). Transition (congestion n timer) (x .phase) Idle (released (ended (x .phase)))) (sym known) (After.congestion-told ends)
   rows give-up h =
       let busy = not (isIn Stage.idle (x .phase)) in
       let calm = not (isIn Stage.live (x .phase)) in
@@ -333,7 +333,7 @@ row-ended (eap-succeeded r) = refl
 row-ended final-good = refl
 row-ended final-bad = refl
 row-ended (error-notified u) = underway-ended u
-row-ended (After.congested u) = underway-ended u
+row-ended (After.congestion-told u) = underway-ended u
 row-ended (given-up i l) = refl
 row-ended child-added = refl
 row-ended child-taken = refl

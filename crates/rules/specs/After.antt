@@ -89,7 +89,7 @@ pub data Transition : Event → Phase → Phase → Action → Type 0 where
   final-good : {a : Address} → Transition (final 1) (Sure a) (Live a) live
   final-bad : {a : Address} → Transition (final 0) (Sure a) Idle (released 0)
   error-notified : {number ended : ℕ} {p : Phase} → Underway p ended → Transition (error number) p Idle (error-up ended number)
-  congested : {timer ended : ℕ} {p : Phase} → Underway p ended → Transition (congestion 1 timer) p Idle (released ended)
+  congestion-told : {timer ended : ℕ} {p : Phase} → Underway p ended → Transition (congestion 1 timer) p Idle (released ended)
   given-up : {p : Phase} → isIn Stage.idle p ≡ false → isIn Stage.live p ≡ false → Transition give-up p Idle nothing
   child-added : {spi session : ℕ} {a : Address} → Transition (child-made spi session) (Live a) (Live a) nothing
   child-taken : {spi : ℕ} {a : Address} → Transition (child-deleted spi) (Live a) (Live a) nothing
