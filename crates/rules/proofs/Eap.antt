@@ -34,7 +34,7 @@ use Rattle.record.specs.Line.{Line}
 use Rattle.record.specs.Sound.{chosen}
 use Rattle.rules.specs.Life.{goes, keeps, packetTaken, replied}
 use Rattle.rules.specs.Phases.{lastReply, owed, turnIn}
-use Rattle.rules.specs.Refusals.{isDue, isNumber}
+use Rattle.rules.specs.Refusals.{isDue, isIdentifier}
 use Rattle.rules.proofs.Moves.{Carries, goes-on, rests, sure-carries}
 use Rattle.rules.proofs.Phases.{identifier-storable, not-live}
 use Rattle.rules.proofs.Valid.{Valid}
@@ -77,7 +77,7 @@ eap-carries t h = record { fits = λ a. refl; storable = λ a k. and-true (addre
 
 -- no packet is due on a live line
 live-due : (q : Packet) (a : Address) → isDue q (Live a) ≡ false
-unfolding isDue isSome isNumber lastReply turnIn isIn
+unfolding isDue isSome isIdentifier lastReply turnIn isIn
 live-due (Start i) a = refl
 live-due (NasRequest i at n) a = refl
 live-due (Success i) a = refl

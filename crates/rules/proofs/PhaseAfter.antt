@@ -44,7 +44,7 @@ use Rattle.rules.specs.Call.{StartNumbers, Event, start, country, addres
 use Rattle.rules.specs.Claims.{Timed, lineIn}
 use Rattle.rules.specs.Life.{addressAnswered, congested, countryAnswered, current, decided, ended, finished, gatewayFound, goes, inPhase, keeps, nameAsked, onward, outcome, packetTaken, replied, started, withChildren}
 use Rattle.rules.specs.Phases.{factsIn, lastReply, owed, turnIn, underway}
-use Rattle.rules.specs.Refusals.{isAllowed, isDue, isMalformed, isNumber, isOutOfRange}
+use Rattle.rules.specs.Refusals.{isAllowed, isDue, isMalformed, isIdentifier, isOutOfRange}
 use Rattle.rules.specs.Run.{answerOf, run}
 use Rattle.rules.proofs.Rows.{Passes}
 use Rattle.rules.proofs.Timed.{event-passes, timed-run}
@@ -234,9 +234,9 @@ module _ (packet : List ℕ) {i : ℕ} where
   asked-row r (turned a (Owed j)) h = absurd (false≢true h)
   asked-row r (turned a (Answered j)) h = eap-asked r
 
-  succeeded-row : {o : Option Turn} {p : Phase} → readPacket packet ≡ Success i → InTurn o p → isNumber i (lastReply o) ≡ true
+  succeeded-row : {o : Option Turn} {p : Phase} → readPacket packet ≡ Success i → InTurn o p → isIdentifier i (lastReply o) ≡ true
       → Transition (eap packet) p (onward Sure (chosen p)) send-auth
-  unfolding onward chosen lastReply isNumber
+  unfolding onward chosen lastReply isIdentifier
   succeeded-row r (unturned q) h = absurd (false≢true h)
   succeeded-row r (turned a (First j)) h = absurd (false≢true h)
   succeeded-row r (turned a (Owed j)) h = absurd (false≢true h)

@@ -107,7 +107,7 @@ unfolding empty slotsOn
     RulesRefusals.isAboveLast RulesRefusals.isNoPair RulesRefusals.leastEventRoom RulesRefusals.leastRoom RulesRefusals.isShort
     RulesRefusals.isOpenAlready RulesRefusals.isNotOpen RulesRefusals.isFull RulesRefusals.isEarly
     RulesRefusals.isLong RulesRefusals.isHomeAbroad RulesRefusals.waitsHomeAbroad RulesRefusals.badNetworks RulesRefusals.lacksParameters
-    RulesRefusals.isChild RulesRefusals.isOutOfRange RulesRefusals.isTakenApart RulesRefusals.isMalformed RulesRefusals.isNumber RulesRefusals.isDue
+    RulesRefusals.isChild RulesRefusals.isOutOfRange RulesRefusals.isTakenApart RulesRefusals.isMalformed RulesRefusals.isIdentifier RulesRefusals.isDue
     RulesRefusals.isAllowed RulesRefusals.isSpiTaken RulesRefusals.hasNoRoom RulesRefusals.isHeldFull
     RulesRefusals.refusalsOf RulesRefusals.eventRefusals RulesRefusals.refusals
     RulesLife.current RulesLife.inPhase RulesLife.goes RulesLife.onward RulesLife.keeps RulesLife.gatewayFound RulesLife.nameAsked

@@ -166,15 +166,16 @@ isMalformed (child-made spi session) = false
 isMalformed (child-deleted spi) = false
 isMalformed ike-delete = false
 
--- EAP Start in auth, EAP NAS in eap with none owed, EAP Success there with the identifier of the last reply
-unfoldable pub isNumber : ℕ → Option ℕ → Bool
-isNumber n none = false
-isNumber n (some m) = eqb n m
+-- an identifier is the one that there is
+unfoldable pub isIdentifier : ℕ → Option ℕ → Bool
+isIdentifier n none = false
+isIdentifier n (some m) = eqb n m
 
+-- EAP Start in auth, EAP NAS in eap with none owed, EAP Success there with the identifier of the last reply
 unfoldable pub isDue : Packet → Phase → Bool
 isDue (Start i) p = isIn Stage.auth p
 isDue (NasRequest i at n) p = isSome (lastReply (turnIn p))
-isDue (Success i) p = isNumber i (lastReply (turnIn p))
+isDue (Success i) p = isIdentifier i (lastReply (turnIn p))
 isDue (NasResponse i q m at n) p = false
 isDue (Stop i) p = false
 isDue Other p = false
