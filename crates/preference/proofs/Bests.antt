@@ -20,7 +20,7 @@ use Rattle.config.specs.Settings.{plmnIn, Settings}
 use Rattle.place.specs.declared.Place.{Place}
 use Rattle.place.specs.declared.Place.the-variants.{Unknown, Home, Abroad}
 use Rattle.preference.specs.Preference.{barred, unbarred, visited, offered, eligible, better, best, networkOf, ranked, unranked}
-use Rattle.preference.specs.Laws.{OnOffer, listed, visiting, Candidate, BestAt, free}
+use Rattle.preference.specs.Laws.{OnOffer, listed, visiting, Candidate, BestAt, notForbidden}
 
 -- a network has the visited MCC exactly of a place abroad with that MCC
 visited-only : (place : Place) (p : Plmn) → visited place p ≡ true → place ≡ Abroad (p .mcc)
@@ -50,13 +50,13 @@ module _ (s : Settings) (ps : List Plmn) (place : Place) (x : Preferred) where
   eligible-only : eligible s ps place x ≡ true → Candidate s ps place x
   unfolding eligible unbarred barred plmnIn
   eligible-only e = record {
-    on-offer = offered-only ps place (x .plmn) (and-left (offered ps place (x .plmn)) (free s (x .plmn)) e);
-    not-barred = not-true (among (x .plmn) (s .bars)) (and-right (offered ps place (x .plmn)) (free s (x .plmn)) e);
+    on-offer = offered-only ps place (x .plmn) (and-left (offered ps place (x .plmn)) (notForbidden s (x .plmn)) e);
+    not-barred = not-true (among (x .plmn) (s .bars)) (and-right (offered ps place (x .plmn)) (notForbidden s (x .plmn)) e);
   }
 
   eligible-always : Candidate s ps place x → eligible s ps place x ≡ true
   unfolding eligible unbarred barred plmnIn
-  eligible-always c = and-true (offered ps place (x .plmn)) (free s (x .plmn)) (offered-always ps place (x .plmn) (c .on-offer)) (ap not (c .not-barred))
+  eligible-always c = and-true (offered ps place (x .plmn)) (notForbidden s (x .plmn)) (offered-always ps place (x .plmn) (c .on-offer)) (ap not (c .not-barred))
 
 -- of two records the earlier one where its priority number is not above the other's, and the later one where it is
 better-is : {R : Type 0} (z y x : Preferred) → better z (some y) ≡ x → (z ≡ x → z .priority ≤ y .priority → R) → (y ≡ x → y .priority < z .priority → R) → R
@@ -171,10 +171,10 @@ module _ (s : Settings) (ps : List Plmn) where
         let nothing = best-none (eligible s ps place) (s .plmns) (no-network-of (best (only (eligible s ps place) (s .plmns))) e) in
         false≢true (sym (none-passes (eligible s ps place) (s .plmns) nothing j y q) ∙ eligible-always s ps place y c)
 
-  pub unranked-exactly : (p : Plmn) → unranked s ps ≡ some p → (i : ℕ) × FirstAt (free s) ps i p
+  pub unranked-exactly : (p : Plmn) → unranked s ps ≡ some p → (i : ℕ) × FirstAt (notForbidden s) ps i p
   unfolding unranked unbarred barred
   unranked-exactly p e = (Row.place (unbarred s) ps, place-first (unbarred s) ps p (sym (first-place (unbarred s) ps) ∙ e))
 
-  pub unranked-none : unranked s ps ≡ none → NonePasses (free s) ps
+  pub unranked-none : unranked s ps ≡ none → NonePasses (notForbidden s) ps
   unfolding unranked unbarred barred
   unranked-none e = place-past (unbarred s) ps (sym (first-place (unbarred s) ps) ∙ e) .1

@@ -32,8 +32,8 @@ pub record BestAt (May : Preferred → Type 0) (xs : List Preferred) (i : ℕ) (
   pub earliest : (j : ℕ) (y : Preferred) → j < i → getElem? xs j ≡ some y → May y → x .priority < y .priority
 
 -- a network is not on the forbidden list
-abbrev pub free : Settings → Plmn → Bool
-free s p = not (among p (s .bars))
+abbrev pub notForbidden : Settings → Plmn → Bool
+notForbidden s p = not (among p (s .bars))
 
 pub record Laws : Type 0 where
   -- a network is offered exactly where it is listed or, where none is listed, has the visited MCC
@@ -45,5 +45,5 @@ pub record Laws : Type 0 where
   pub ranked-none : (s : Settings) (ps : List Plmn) (place : Place) → ranked s ps place ≡ none
       → (j : ℕ) (y : Preferred) → getElem? (s .plmns) j ≡ some y → Candidate s ps place y → ⊥
   -- the pick where no priority decides is the first network of the list that is not barred, and there is none exactly where all are
-  pub unranked-exactly : (s : Settings) (ps : List Plmn) (p : Plmn) → unranked s ps ≡ some p → (i : ℕ) × FirstAt (free s) ps i p
-  pub unranked-none : (s : Settings) (ps : List Plmn) → unranked s ps ≡ none → NonePasses (free s) ps
+  pub unranked-exactly : (s : Settings) (ps : List Plmn) (p : Plmn) → unranked s ps ≡ some p → (i : ℕ) × FirstAt (notForbidden s) ps i p
+  pub unranked-none : (s : Settings) (ps : List Plmn) → unranked s ps ≡ none → NonePasses (notForbidden s) ps

@@ -230,7 +230,7 @@ pub record Claims : Type 0 where
   -- 'Life of a line' and 'Listing of one tenant': the histories, the numbers of each action, every event in every phase
   pub lives : map got LifeExamples.lives ≡ map said LifeExamples.lives
   pub actions : map numbersOf LifeExamples.actions ≡ LifeExamples.actionNumbers
-  pub phases : map PhaseExamples.phaseFound PhaseExamples.phases ≡ map PhaseExamples.phaseSaid PhaseExamples.phases
+  pub phases : map PhaseExamples.phaseGot PhaseExamples.phases ≡ map PhaseExamples.phaseSaid PhaseExamples.phases
   -- 'Choosing a gateway'
   pub selections : map got SelectionExamples.selections ≡ map said SelectionExamples.selections
   -- 'Refusal numbers': the lowest that applies, and the ranges for 8
@@ -240,9 +240,9 @@ pub record Claims : Type 0 where
   pub forms : map got FormExamples.forms ≡ map said FormExamples.forms
   -- holds, and those that histories leave
   pub holdings : map got HoldExamples.holdings ≡ map said HoldExamples.holdings
-  pub kept : map HoldExamples.keptFound HoldExamples.kept ≡ map HoldExamples.keptSaid HoldExamples.kept
+  pub kept : map HoldExamples.keptGot HoldExamples.kept ≡ map HoldExamples.keptSaid HoldExamples.kept
   -- lines on both sides of each condition of a sound one
-  pub sounds : map SoundExamples.soundFound SoundExamples.sounds ≡ map SoundExamples.soundSaid SoundExamples.sounds
+  pub sounds : map SoundExamples.soundGot SoundExamples.sounds ≡ map SoundExamples.soundSaid SoundExamples.sounds
   -- if the same calls remain after striking out the other tenants' calls that are neither open nor close, a tenant gets the same answers
   pub isolation : (a : ℕ) (g h : List Call) → allOf isOctets g ≡ true → allOf isOctets h ≡ true → remaining a g ≡ remaining a h
       → answersTo a g (zeros tableLength) ≡ answersTo a h (zeros tableLength)

@@ -152,14 +152,14 @@ kept =
     ∷ record { history = congestedBy 0xE0 ++ closing 0 0 ∷ toIdle; says = [] }
     ∷ []
 
-unfoldable pub keptFound : Kept → List ℕ
+unfoldable pub keptGot : Kept → List ℕ
 unfolding evaluated holdNumbers holdsIn slotsAfter
-keptFound e = evaluated (joined holdNumbers (holdsIn (lineAt (pairOf 0 0) (slotsAfter (e .history)))))
+keptGot e = evaluated (joined holdNumbers (holdsIn (lineAt (pairOf 0 0) (slotsAfter (e .history)))))
 
 unfoldable pub keptSaid : Kept → List ℕ
 unfolding holdNumbers
 keptSaid e = joined holdNumbers (e .says)
 
-pub kept-computed : map keptFound kept ≡ map keptSaid kept
-unfolding kept keptFound keptSaid
+pub kept-computed : map keptGot kept ≡ map keptSaid kept
+unfolding kept keptGot keptSaid
 kept-computed = refl

@@ -103,13 +103,13 @@ unfoldable pub phases : List Phased
 unfolding allowed beyond eachPhase early late toIdle
 phases = allowed toIdle "x...................." ∷ eachPhase ++ map early eachPhase ++ map late eachPhase ++ map beyond eachPhase
 
-unfoldable pub phaseFound : Phased → List ℕ
+unfoldable pub phaseGot : Phased → List ℕ
 unfolding tried
-phaseFound e = tried (e .before) (e .time) (e .tries)
+phaseGot e = tried (e .before) (e .time) (e .tries)
 
 unfoldable pub phaseSaid : Phased → List ℕ
 phaseSaid e = e .says
 
-pub phases-computed : map phaseFound phases ≡ map phaseSaid phases
-unfolding phases phaseFound phaseSaid
+pub phases-computed : map phaseGot phases ≡ map phaseSaid phases
+unfolding phases phaseGot phaseSaid
 phases-computed = refl

@@ -19,9 +19,9 @@ unfoldable pub openPair : ℕ → Call
 openPair k = opening (k / 4) (k % 4)
 
 -- a start by its numbers
-unfoldable pub startGiven : StartNumbers → Call
+unfoldable pub startAtNode : StartNumbers → Call
 unfolding node now
-startGiven g = now (start g node 64)
+startAtNode g = now (start g node 64)
 
 -- a start in which everything is wrong that can be
 unfoldable pub worst : ℕ → ℕ → ℕ → ℕ → Call
@@ -108,14 +108,14 @@ unfolding lowest got said
 lowest-computed = refl
 
 unfoldable pub ranges : List Example
-unfolding acts atHome declined declines startNumbers nas network now own parameters roaming shown startGiven toChosen toCountry toFirst toIdle
+unfolding acts atHome declined declines startNumbers nas network now own parameters roaming shown startAtNode toChosen toCountry toFirst toIdle
     toLive toName toSure writes
 ranges =
     -- 8: place one of three, MCC and MNC 0 to 999, a flag 0 or 1, local IP version 4 or 6; a number that a call does not have is 0
     record {
       before = toIdle;
       calls =
-          map startGiven
+          map startAtNode
           (startNumbers 3 0 0 0 0 4 ∷ startNumbers 2 1000 0 0 0 4 ∷ startNumbers 1 901 0 0 0 4 ∷ startNumbers 0 901 0 0 0 4 ∷ startNumbers 1 0 2 0 0 4 ∷ startNumbers 1 0 1 1000 0 4
           ∷ startNumbers 1 0 1 0 1000 4 ∷ startNumbers 1 0 0 1 0 4 ∷ startNumbers 1 0 0 0 1 4 ∷ startNumbers 1 0 0 0 0 5
           -- abroad with the home MCC of the lent text
@@ -129,7 +129,7 @@ ranges =
     -- also where the event isn't allowed in this phase: abroad with the home MCC, NAS empty or over-long
     ∷ record {
       before = toLive;
-      calls = startGiven (startNumbers 2 262 0 0 0 4) ∷ now (reply parameters [] 3090) ∷ now (reply parameters (zeros 2049) 3090) ∷ [];
+      calls = startAtNode (startNumbers 2 262 0 0 0 4) ∷ now (reply parameters [] 3090) ∷ now (reply parameters (zeros 2049) 3090) ∷ [];
       says = declines 64 8 ∷ declines 3090 8 ∷ declines 3090 8 ∷ [];
     }
     -- a configuration text over 1,024 octets is 8

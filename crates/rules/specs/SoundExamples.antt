@@ -34,12 +34,12 @@ facts place registered version = record { place = place; registered = registered
 unfoldable pub plmn : ℕ → ℕ → MaybePlmn
 plmn mcc mnc = Is (record { mcc = mcc; mnc = mnc })
 
-unfoldable pub held : Address → Hold
-held a = record { address = a; end = Never }
+unfoldable pub heldAlways : Address → Hold
+heldAlways a = record { address = a; end = Never }
 
 unfoldable pub heldEach : ℕ → List Hold
-unfolding held
-heldEach n = row (λ x. held (V4 x)) 1 n
+unfolding heldAlways
+heldEach n = row (λ x. heldAlways (V4 x)) 1 n
 
 unfoldable pub child : ℕ → ℕ → Child
 child spi session = record { spi = spi; session = session }
@@ -49,9 +49,9 @@ unfolding child
 childEach n = row (λ spi. child spi 1) 0x100 n
 
 -- the phases that wait for a name, those with 192.0.2.7 chosen before live, live, and all but idle
-unfoldable pub asking : List Phase
+unfoldable pub namePhases : List Phase
 unfolding facts
-asking = Country (facts (Abroad 901) None 4) ∷ Name (facts Home None 4) ∷ []
+namePhases = Country (facts (Abroad 901) None 4) ∷ Name (facts Home None 4) ∷ []
 
 unfoldable pub beforeLive : List Phase
 beforeLive =
@@ -62,8 +62,8 @@ unfoldable pub live : Phase
 live = Live (V4 0xc0000207)
 
 unfoldable pub busy : List Phase
-unfolding asking beforeLive live
-busy = asking ++ beforeLive ++ live ∷ []
+unfolding namePhases beforeLive live
+busy = namePhases ++ beforeLive ++ live ∷ []
 
 -- a line with last time 100, and whether it is sound
 pub record Judged : Type 0 where
@@ -86,7 +86,7 @@ unfolding line
 holding b hs p = record { line = line p hs []; says = b }
 
 unfoldable pub sounds : List Judged
-unfolding alone asking bearing beforeLive busy child childEach facts held heldEach holding live plmn
+unfolding alone namePhases bearing beforeLive busy child childEach facts heldAlways heldEach holding live plmn
 sounds =
     -- every phase with its own data
     map (alone true) (Idle ∷ busy)
@@ -101,7 +101,7 @@ sounds =
     ++ map (alone true) (Country (facts (Abroad 901) None 6) ∷ Name (facts Home None 6) ∷ [])
     ++ map (alone false) (Country (facts (Abroad 901) None 5) ∷ Name (facts Home None 5) ∷ [])
     -- children only on a live line
-    ++ map (bearing false (childEach 1)) (Idle ∷ asking ++ beforeLive)
+    ++ map (bearing false (childEach 1)) (Idle ∷ namePhases ++ beforeLive)
     -- at most 8 children
     ++ bearing true (childEach 8) live
     ∷ bearing false (childEach 9) live
@@ -120,26 +120,26 @@ sounds =
     ∷ map (holding true (heldEach 7)) busy
     ++ map (holding false (heldEach 8)) busy
     -- for different addresses, of one version or two, whatever their ends
-    ++ holding true (held (V4 1) ∷ held (V6 0 1) ∷ held (V4 2) ∷ held (V6 1 1) ∷ []) Idle
-    ∷ holding false (held (V4 1) ∷ held (V4 2) ∷ record { address = V4 1; end = At 101 } ∷ []) Idle
-    ∷ holding false (held (V6 1 2) ∷ held (V6 1 2) ∷ []) Idle
+    ++ holding true (heldAlways (V4 1) ∷ heldAlways (V6 0 1) ∷ heldAlways (V4 2) ∷ heldAlways (V6 1 1) ∷ []) Idle
+    ∷ holding false (heldAlways (V4 1) ∷ heldAlways (V4 2) ∷ record { address = V4 1; end = At 101 } ∷ []) Idle
+    ∷ holding false (heldAlways (V6 1 2) ∷ heldAlways (V6 1 2) ∷ []) Idle
     -- none of them the chosen one
-    ∷ map (holding true (held (V4 0xc0000208) ∷ held (V6 0 0xc0000207) ∷ [])) (live ∷ beforeLive)
-    ++ map (holding false (held (V4 0xc0000208) ∷ held (V4 0xc0000207) ∷ [])) (live ∷ beforeLive)
+    ∷ map (holding true (heldAlways (V4 0xc0000208) ∷ heldAlways (V6 0 0xc0000207) ∷ [])) (live ∷ beforeLive)
+    ++ map (holding false (heldAlways (V4 0xc0000208) ∷ heldAlways (V4 0xc0000207) ∷ [])) (live ∷ beforeLive)
     -- each ending after the line's last time
     ++ holding true (record { address = V4 1; end = At 101 } ∷ []) Idle
     ∷ holding false (record { address = V4 1; end = At 100 } ∷ []) Idle
-    ∷ holding false (held (V4 2) ∷ record { address = V4 1; end = At 100 } ∷ []) Idle
+    ∷ holding false (heldAlways (V4 2) ∷ record { address = V4 1; end = At 100 } ∷ []) Idle
     ∷ []
 
-unfoldable pub soundFound : Judged → Bool
+unfoldable pub soundGot : Judged → Bool
 unfolding addressIn allOf anyOf childFits childrenSound chosen chosenFree different distinct endAfter endsAfter factsFit holdsSound inRange isAbroad isIn
     isSpi isVersion lineSound numberOf phaseFits placeFits registeredFits sameAddress sameSpi spisDiffer stands versionOf
-soundFound e = lineSound (e .line)
+soundGot e = lineSound (e .line)
 
 unfoldable pub soundSaid : Judged → Bool
 soundSaid e = e .says
 
-pub sounds-computed : map soundFound sounds ≡ map soundSaid sounds
-unfolding row sounds soundFound soundSaid
+pub sounds-computed : map soundGot sounds ≡ map soundSaid sounds
+unfolding row sounds soundGot soundSaid
 sounds-computed = refl

@@ -51,7 +51,7 @@ module _ (s : Settings) (f : Facts) where
   -- a registered PLMN that counts and is not barred
   registration-of : (p : Plmn) → registered s f ≡ some p → unbarred s p ≡ true → Registered s f p
   unfolding unbarred barred
-  registration-of p e free = let c = counted p e in record { given = c .0; away = c .1; not-barred = not-true (among p (s .bars)) free }
+  registration-of p e free = let c = counted p e in record { is = c .0; away = c .1; not-barred = not-true (among p (s .bars)) free }
 
   free-of : (p : Plmn) → Registered s f p → unbarred s p ≡ true
   unfolding unbarred barred
@@ -76,7 +76,7 @@ module _ (s : Settings) (f : Facts) where
     at-once : (p : Plmn) → AtOnce s f p → start s f ≡ Network p
     unfolding start startAt abroad
     at-once p a =
-        ap (startAt s (registered s f)) here ∙ ap (λ (r : Option Plmn). abroad s r mcc) (other-counts p (a .registration .given) (a .registration .away)) ∙ rw (direct-is p a)
+        ap (startAt s (registered s f)) here ∙ ap (λ (r : Option Plmn). abroad s r mcc) (other-counts p (a .registration .is) (a .registration .away)) ∙ rw (direct-is p a)
 
     by-country : ((p : Plmn) → AtOnce s f p → ⊥) → start s f ≡ Country mcc
     unfolding start startAt abroad
@@ -94,7 +94,7 @@ module _ (s : Settings) (f : Facts) where
   module _ (ps : List Plmn) where
     listed-some : (p : Plmn) → Listed s f ps p → ifListed s (registered s f) ps ≡ some p
     unfolding ifListed
-    listed-some p l = rw (other-counts p (l .registration .given) (l .registration .away), l .in-list, free-of p (l .registration))
+    listed-some p l = rw (other-counts p (l .registration .is) (l .registration .away), l .in-list, free-of p (l .registration))
 
     listed-none : ((p : Plmn) → Listed s f ps p → ⊥) → ifListed s (registered s f) ps ≡ none
     unfolding ifListed

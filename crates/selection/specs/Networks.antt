@@ -16,7 +16,7 @@ use Rattle.selection.specs.declared.Choice.the-variants.{Stop, Country, 
 
 -- p is the registered PLMN, it is not the lent text's home PLMN, and it is not barred
 pub record Registered (s : Settings) (f : Facts) (p : Plmn) : Type 0 where
-  pub given : f .registered ≡ Is p
+  pub is : f .registered ≡ Is p
   pub away : p ≡ s .home → ⊥
   pub not-barred : among p (s .bars) ≡ false
 
