@@ -11,9 +11,9 @@ use Rattle.octets.specs.Part.{zerosAt}
 use Rattle.address.specs.declared.Address.{Address}
 use Rattle.addresses.specs.Addresses.{addressFrom, isAddress}
 use Rattle.place.specs.declared.Facts.{Facts}
-use Rattle.phase.specs.Branch.{havingFrom, isAsking, isCountry, isHaving, isEap}
+use Rattle.phase.specs.Branch.{isAsking, isCountry, isHaving, isEap}
 use Rattle.phase.specs.Facts.{placeFrom, factsFrom, factsFit, factsWritten}
-use Rattle.phase.specs.Phase.{isAbroad, isPhase, phaseFits, phaseFrom, phaseWritten, turnFrom, turnWritten}
+use Rattle.phase.specs.Phase.{havingFrom, isAbroad, isPhase, phaseFits, phaseFrom, phaseWritten, turnFrom, turnWritten}
 use Rattle.phase.specs.declared.Phase.the-variants.{Idle, Country, Name, Chosen, Init, Auth, Eap, Sure, Live}
 use Rattle.phase.specs.declared.Turn.{Turn}
 use Rattle.phase.specs.declared.Turn.the-variants.{First, Owed, Answered}
@@ -85,15 +85,15 @@ having-fits l at n = by-tests (eqb n 3) (eqb n 4) (eqb n 5) (eqb n 6) (eqb n 7)
 
 module _ (l : List ℕ) (at k : ℕ) (of : k ≡ field l at 1) where
   pub idle-is : k ≡ 0 → Idle ≡ phaseFrom l at
-  unfolding phaseFrom
+  unfolding phaseFrom havingFrom
   idle-is e = rw (sym of ∙ e)
 
   pub country-is : k ≡ 1 → (f : Facts) → f ≡ factsFrom l (at + 1) → Country f ≡ phaseFrom l at
-  unfolding phaseFrom
+  unfolding phaseFrom havingFrom
   country-is e f h = rw (sym of ∙ e, h)
 
   pub name-is : k ≡ 2 → (f : Facts) → f ≡ factsFrom l (at + 1) → Name f ≡ phaseFrom l at
-  unfolding phaseFrom
+  unfolding phaseFrom havingFrom
   name-is e f h = rw (sym of ∙ e, h)
 
   module _ (not-0 : k ≡ 0 → ⊥) (not-1 : k ≡ 1 → ⊥) (not-2 : k ≡ 2 → ⊥) where
@@ -103,21 +103,21 @@ module _ (l : List ℕ) (at k : ℕ) (of : k ≡ field l at 1) where
 
   -- whether a phase stands there
   pub idle-stands : k ≡ 0 → zerosAt l (at + 1) 19 ≡ isPhase l at
-  unfolding isPhase phaseWritten phaseFrom phaseFits
+  unfolding isPhase phaseWritten phaseFrom havingFrom phaseFits
   idle-stands e = rw (sym of ∙ e) (and-passed (zerosAt l (at + 1) 19))
 
   pub country-stands : k ≡ 1 → isCountry l at ≡ isPhase l at
-  unfolding isPhase phaseWritten phaseFrom phaseFits isCountry isAsking factsFrom
+  unfolding isPhase phaseWritten phaseFrom havingFrom phaseFits isCountry isAsking factsFrom
   country-stands e =
       rw (sym of ∙ e)
       (and-between (factsWritten l (at + 1)) (factsFit (factsFrom l (at + 1))) (zerosAt l (at + 10) 10) (isAbroad (placeFrom l (at + 1))))
 
   pub name-stands : k ≡ 2 → isAsking l at ≡ isPhase l at
-  unfolding isPhase phaseWritten phaseFrom phaseFits isAsking
+  unfolding isPhase phaseWritten phaseFrom havingFrom phaseFits isAsking
   name-stands e = rw (sym of ∙ e) (and-swap (factsWritten l (at + 1)) (factsFit (factsFrom l (at + 1))) (zerosAt l (at + 10) 10))
 
   pub eap-stands : k ≡ 6 → isEap l at ≡ isPhase l at
-  unfolding isPhase phaseWritten phaseFrom phaseFits isEap
+  unfolding isPhase phaseWritten phaseFrom havingFrom phaseFits isEap
   eap-stands e = rw (sym of ∙ e) (and-passed (isAddress l (at + 1) && turnWritten l (at + 18)))
 
   module _ (not-0 : k ≡ 0 → ⊥) (not-1 : k ≡ 1 → ⊥) (not-2 : k ≡ 2 → ⊥) (not-6 : k ≡ 6 → ⊥) where

@@ -29,7 +29,7 @@ use Rattle.place.specs.declared.Place.{Place}
 use Rattle.place.specs.declared.Place.the-variants.{Unknown, Home, Abroad}
 use Rattle.phase.specs.Facts.{placeOctets, placeFrom, placeFits, placeWritten, registeredOctets, registeredFrom, registeredFits, registeredWritten, factsOctets, factsFrom, factsFit, factsWritten}
 use Rattle.phase.specs.Laws.{turnStorable, phaseStorable}
-use Rattle.phase.specs.Phase.{askingOctets, havingOctets, isAbroad, phaseFits, phaseFrom, phaseOctets, phaseWritten, turnFrom, turnOctets, turnWritten}
+use Rattle.phase.specs.Phase.{askingOctets, havingOctets, isAbroad, phaseFits, phaseFrom, phaseOctets, phaseWritten, turnFrom, turnOctets, turnWritten, havingFrom}
 use Rattle.phase.specs.declared.Phase.{Phase}
 use Rattle.phase.specs.declared.Phase.the-variants.{Idle, Country, Name, Chosen, Init, Auth, Eap, Sure, Live}
 use Rattle.phase.specs.declared.Turn.{Turn}
@@ -127,14 +127,14 @@ module _ (l : List ℕ) (at : ℕ) {r : List ℕ} (n : ℕ) (octet : n < 256) wh
 
 module _ (l : List ℕ) (at : ℕ) where
   idle-back : {r : List ℕ} → Stands l at (zeros 20) r → (phaseFrom l at ≡ Idle) × (phaseWritten l at ≡ true)
-  unfolding phaseFrom phaseWritten be digits zeros
+  unfolding phaseFrom havingFrom phaseWritten be digits zeros
   idle-back e =
       let number : field l at 1 ≡ 0 = says 1 0 (omega arith) (before (be 1 0) (zeros 19) e) in
       let none : zerosAt l (at + 1) 19 ≡ true = zeros-stand 19 (behind (be 1 0) (zeros 19) 1 refl e) in
       (rw number, rw (number, none))
 
   phase-back : {r : List ℕ} (p : Phase) → phaseFits p ≡ true → phaseStorable p ≡ true → Stands l at (phaseOctets p) r → (phaseFrom l at ≡ p) × (phaseWritten l at ≡ true)
-  unfolding phaseOctets phaseFits phaseFrom phaseStorable phaseWritten
+  unfolding phaseOctets phaseFits phaseFrom havingFrom phaseStorable phaseWritten
   phase-back Idle g h e = idle-back e
   phase-back (Country f) g h e = let b = asking-back l at 1 (omega arith) f (and-left (factsFit f) (isAbroad (f .place)) g) e in (rw (b .0, b .1), rw (b .0, b .2, b .3))
   phase-back (Name f) g h e = let b = asking-back l at 2 (omega arith) f g e in (rw (b .0, b .1), rw (b .0, b .2, b .3))
@@ -161,7 +161,7 @@ turn-storable l at octets fits =
     cond-passes turnStorable (eqb (field l at 1) 1) (First i) _ small (cond-passes turnStorable (eqb (field l at 1) 2) (Owed i) (Answered i) small small)
 
 pub storable : (l : List ℕ) (at : ℕ) → allOf (below 256) l ≡ true → at + 20 ≤ length l → phaseStorable (phaseFrom l at) ≡ true
-unfolding phaseFrom phaseStorable
+unfolding phaseFrom havingFrom phaseStorable
 storable l at octets fits =
     let n = field l at 1 in
     let f = factsFrom l (at + 1) in

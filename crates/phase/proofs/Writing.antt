@@ -16,7 +16,7 @@ use Rattle.octets.proofs.Search.{and-left, and-right, either}
 use Rattle.addresses.specs.Addresses.{addressOctets, addressFrom, isAddress}
 use Rattle.addresses.proofs.RoundTrip.{address-octets}
 use Rattle.phase.specs.Facts.{placeOctets, placeFrom, placeWritten, registeredOctets, registeredFrom, registeredWritten, factsOctets, factsFrom, factsWritten}
-use Rattle.phase.specs.Phase.{askingOctets, havingOctets, phaseFrom, phaseOctets, phaseWritten, turnFrom, turnOctets, turnWritten}
+use Rattle.phase.specs.Phase.{askingOctets, havingOctets, phaseFrom, phaseOctets, phaseWritten, turnFrom, turnOctets, turnWritten, havingFrom}
 
 above-2 : (n : ℕ) → (n ≡ 0 → ⊥) → (n ≡ 1 → ⊥) → (n ≡ 2 → ⊥) → 2 < n
 above-2 n f g h = omega arith
@@ -130,7 +130,7 @@ module _ (l : List ℕ) (octets : allOf (below 256) l ≡ true) where
             is-8 N (above-2 N not-0 not-1 not-2) high f g h not-6 i
 
         by-address : Back
-        unfolding phaseOctets phaseFrom phaseWritten
+        unfolding phaseOctets phaseFrom havingFrom phaseWritten
         by-address =
             either N 3 (λ e. rw e (having-octets 3 e (rw e at w)))
             (λ f. either N 4 (λ e. rw e (having-octets 4 e (rw e at w)))
@@ -139,7 +139,7 @@ module _ (l : List ℕ) (octets : allOf (below 256) l ≡ true) where
             (λ i. let e : N ≡ 8 = last f g h i in rw e (having-octets 8 e (rw e at w))))))
 
       by-number : Back
-      unfolding phaseOctets phaseFrom phaseWritten
+      unfolding phaseOctets phaseFrom havingFrom phaseWritten
       by-number =
           either N 0 (λ e. rw e (idle-octets e (rw e at w)))
           (λ f. either N 1 (λ e. rw e (asking-octets 1 e (rw e at w)))

@@ -53,19 +53,21 @@ turnFrom l at =
     let i = field l (at + 1) 1 in
     cond (eqb (field l at 1) 1) (First i) (cond (eqb (field l at 1) 2) (Owed i) (Answered i))
 
+-- a phase that keeps an address, by its number
+unfoldable pub havingFrom : List ℕ → ℕ → ℕ → Phase
+havingFrom l at n =
+    let a = addressFrom l (at + 1) in
+    cond (eqb n (stageNumber Stage.chosen)) (Chosen a)
+    (cond (eqb n (stageNumber Stage.init)) (Init a)
+    (cond (eqb n (stageNumber Stage.auth)) (Auth a) (cond (eqb n (stageNumber Stage.eap)) (Eap a (turnFrom l (at + 18))) (cond (eqb n (stageNumber Stage.sure)) (Sure a) (Live a)))))
+
 -- a number above the last one is no phase, which `phaseWritten` says
 unfoldable pub phaseFrom : List ℕ → ℕ → Phase
 phaseFrom l at =
     let n = field l at 1 in
     let f = factsFrom l (at + 1) in
-    let a = addressFrom l (at + 1) in
     cond (eqb n (stageNumber Stage.idle)) Idle
-    (cond (eqb n (stageNumber Stage.country)) (Country f)
-    (cond (eqb n (stageNumber Stage.name)) (Name f)
-    (cond (eqb n (stageNumber Stage.chosen)) (Chosen a)
-    (cond (eqb n (stageNumber Stage.init)) (Init a)
-    (cond (eqb n (stageNumber Stage.auth)) (Auth a)
-    (cond (eqb n (stageNumber Stage.eap)) (Eap a (turnFrom l (at + 18))) (cond (eqb n (stageNumber Stage.sure)) (Sure a) (Live a))))))))
+    (cond (eqb n (stageNumber Stage.country)) (Country f) (cond (eqb n (stageNumber Stage.name)) (Name f) (havingFrom l at n)))
 
 -- phase country only abroad
 unfoldable pub isAbroad : Place → Bool

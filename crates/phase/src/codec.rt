@@ -27,8 +27,8 @@ ghost use mathlib.Core.Path.{_≡_};
 ghost use Prim.Native.Nat.{_+_, _≤_};
 ghost use lib.ListN.{length};
 ghost use Rattle.octets.specs.Part.{Wrote};
-ghost use Rattle.phase.specs.Branch.{havingFrom, isAsking, isCountry, isHaving, isEap};
-ghost use Rattle.phase.specs.Phase.{askingOctets, havingOctets, isAbroad, isPhase, phaseFrom, phaseLength, phaseOctets, turnFrom, turnOctets, turnWritten};
+ghost use Rattle.phase.specs.Branch.{isAsking, isCountry, isHaving, isEap};
+ghost use Rattle.phase.specs.Phase.{askingOctets, havingFrom, havingOctets, isAbroad, isPhase, phaseFrom, phaseLength, phaseOctets, turnFrom, turnOctets, turnWritten};
 
 // How far an EAP session is, from 2 octets.
 fn read_turn(list: &[u8], at: usize) -> Turn
