@@ -55,5 +55,11 @@ unfoldable pub spisDiffer : List Child → Bool
 spisDiffer cs = distinct sameSpi cs
 
 -- an SPI from 256, a session from 1 to 15
+abbrev pub leastSpi : ℕ
+leastSpi = 256
+
+abbrev pub mostSession : ℕ
+mostSession = 15
+
 unfoldable pub childFits : Child → Bool
-childFits c = leb 256 (c .spi) && leb 1 (c .session) && leb (c .session) 15
+childFits c = leb leastSpi (c .spi) && leb 1 (c .session) && leb (c .session) mostSession

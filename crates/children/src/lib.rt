@@ -20,6 +20,11 @@ pub struct Child {
 // How many children a line has room for.
 pub const CHILDREN: usize = 8;
 
+// The lowest SPI and the highest session.
+const LEAST_SPI: u64 = 256;
+
+const MOST_SESSION: u64 = 15;
+
 // The octets of a child.
 const LENGTH: usize = 5;
 
@@ -121,7 +126,7 @@ pub fn are_different(list: [Child; CHILDREN], n: usize) -> bool
 pub fn child_fits(child: Child) -> bool
     ensures { λ r. ⌜ r ≡ childFits child ⌝ }
 {
-    (256 <= child.spi) & (1 <= child.session) & (child.session <= 15)
+    (LEAST_SPI <= child.spi) & (1 <= child.session) & (child.session <= MOST_SESSION)
 }
 
 // Whether the numbers of each of the first n children are in their ranges.

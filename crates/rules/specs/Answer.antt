@@ -13,6 +13,10 @@ pub record Answer : Type 0 where
   pub part : List ℕ
   pub buffer : List ℕ
 
+-- how many numbers the answer of a timed call or a listing has
+abbrev pub numberCount : ℕ
+numberCount = 12
+
 -- what the daemon has to do
 pub data Action : Type 0 where
   nothing : Action
@@ -90,5 +94,5 @@ roomOf (timed tenant line time e) = eventRoom e
 unfoldable pub refused : ℕ → Call → Answer
 refused n (opening tenant line) = record { refusal = n; numbers = []; part = []; buffer = [] }
 refused n (closing tenant line) = record { refusal = n; numbers = []; part = []; buffer = [] }
-refused n (listing tenant room) = record { refusal = n; numbers = zeros 12; part = []; buffer = zeros room }
-refused n (timed tenant line time e) = record { refusal = n; numbers = zeros 12; part = []; buffer = zeros (eventRoom e) }
+refused n (listing tenant room) = record { refusal = n; numbers = zeros numberCount; part = []; buffer = zeros room }
+refused n (timed tenant line time e) = record { refusal = n; numbers = zeros numberCount; part = []; buffer = zeros (eventRoom e) }

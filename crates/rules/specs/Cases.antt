@@ -9,7 +9,7 @@ use Rattle.octets.specs.Digits.{be}
 use Rattle.octets.specs.Part.{padded, zeros}
 use Rattle.text.specs.Text.{digitText, text}
 use Rattle.rules.specs.Run.{bare}
-use Rattle.rules.specs.Answer.{Action, Answer, listed, numbersOf}
+use Rattle.rules.specs.Answer.{Action, Answer, listed, numbersOf, numberCount}
 use Rattle.rules.specs.Call.{StartNumbers, Event, start, begin, init, eap, reply, final, congestion, Call, opening, timed}
 
 -- a record of a text as document 01 shows it: tabs as bars, ended by one newline
@@ -192,7 +192,7 @@ lists l = writes 1024 (listed (length l)) [] l
 
 -- refused by a number, with an answer buffer of so many octets
 unfoldable pub declines : ℕ → ℕ → Answer
-declines room n = record { refusal = n; numbers = zeros 12; part = []; buffer = zeros room }
+declines room n = record { refusal = n; numbers = zeros numberCount; part = []; buffer = zeros room }
 
 unfoldable pub declined : ℕ → Answer
 unfolding declines

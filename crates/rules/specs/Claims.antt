@@ -26,7 +26,7 @@ use Rattle.selection.specs.Stops.{Ends, Exactly, addresses, countryReached, sta
 use Rattle.table.specs.Slots.{isOpen, lineAt, slotsOf, openPairs}
 use Rattle.table.specs.Table.{isTable, recordOf, slot, tableLength, recordCount}
 use Rattle.rules.specs.After.{After, LiveBy, PhaseAfter, SureBy, ownRecord}
-use Rattle.rules.specs.Answer.{Answer, numbersOf, roomOf}
+use Rattle.rules.specs.Answer.{Answer, numberCount, numbersOf, roomOf}
 use Rattle.rules.specs.Call.{StartNumbers, Event, start, country, address, child-made, child-deleted, Call, opening, closing, listing, timed, factsOf, pairOf, lastTime, listingRoom}
 use Rattle.rules.specs.Computed.{got, said}
 use Rattle.rules.specs.Computed as Computed
@@ -125,8 +125,8 @@ pub record Alike (a : ℕ) (l m : List ℕ) : Type 0 where
 unfoldable pub countOf : Call → ℕ
 countOf (opening tenant line) = 0
 countOf (closing tenant line) = 0
-countOf (listing tenant room) = 12
-countOf (timed tenant line time e) = 12
+countOf (listing tenant room) = numberCount
+countOf (timed tenant line time e) = numberCount
 
 -- what a refused call leaves
 pub record Left (c : Call) (l : List ℕ) (r : Result) : Type 0 where
