@@ -14,7 +14,7 @@ unfoldable pub lastEntry : List ℕ → List Entry
 lastEntry [] = []
 lastEntry (c ∷ l) = Bad ∷ []
 
--- the entries of lines of which all but the last are ended by a newline
+-- the entries of lines of which all but the last are ended by a newline; a text has at least one such line, empty or not
 unfoldable pub entries : List (List ℕ) → List Entry
 entries [] = []
 entries (l ∷ []) = lastEntry l

@@ -62,7 +62,7 @@ three word a b =
 unfoldable pub four : List ℕ → List ℕ → List ℕ → List ℕ → Entry
 four word a b c = cond (same word (text "plmn")) (plmnEntry (plmnOf a b) (priorityOf c)) Bad
 
--- an entry by its fields, three or four; a line of one field, empty or not, is no entry
+-- an entry by its fields, three or four; a line of one field, empty or not, is no entry, and no line has none
 unfoldable pub entryOf : List (List ℕ) → Entry
 entryOf [] = Bad
 entryOf (a ∷ []) = Bad
