@@ -34,6 +34,7 @@ use Rattle.rules.specs.FormExamples as FormExamples
 use Rattle.rules.specs.Histories.{answersTo, isOctets, remaining, tableAfter}
 use Rattle.rules.specs.HoldExamples as HoldExamples
 use Rattle.rules.specs.Life.{current, isOther, outcome, withChildren}
+use Rattle.rules.specs.LayoutExamples as LayoutExamples
 use Rattle.rules.specs.LifeExamples as LifeExamples
 use Rattle.rules.specs.Listing.{listFrom}
 use Rattle.rules.specs.PhaseExamples as PhaseExamples
@@ -243,6 +244,8 @@ pub record Claims : Type 0 where
   pub kept : map HoldExamples.keptGot HoldExamples.kept ≡ map HoldExamples.keptSaid HoldExamples.kept
   -- lines on both sides of each condition of a sound one
   pub sounds : map SoundExamples.soundGot SoundExamples.sounds ≡ map SoundExamples.soundSaid SoundExamples.sounds
+  -- octets as docs/TABLE.md and the documents lay them down
+  pub layouts : map LayoutExamples.layoutGot LayoutExamples.layouts ≡ map LayoutExamples.layoutSaid LayoutExamples.layouts
   -- if the same calls remain after striking out the other tenants' calls that are neither open nor close, a tenant gets the same answers
   pub isolation : (a : ℕ) (g h : List Call) → allOf isOctets g ≡ true → allOf isOctets h ≡ true → remaining a g ≡ remaining a h
       → answersTo a g (zeros tableLength) ≡ answersTo a h (zeros tableLength)

@@ -39,6 +39,13 @@ illFormed =
     ∷ ("home|262|01" ∷ "home|262|01" ∷ [])
     ∷ ("home|262|01" ∷ "node|name|" ∷ [])
     ∷ ("home|262|01" ∷ "node|name|a_b" ∷ [])
+    ∷ ("home|262|01" ∷ "node|name|a/b" ∷ [])
+    ∷ ("home|262|01" ∷ "node|name|a:b" ∷ [])
+    ∷ ("home|262|01" ∷ "node|name|a@b" ∷ [])
+    ∷ ("home|262|01" ∷ "node|name|a[b" ∷ [])
+    ∷ ("home|262|01" ∷ "node|name|a`b" ∷ [])
+    ∷ ("home|262|01" ∷ "node|name|a{b" ∷ [])
+    ∷ ("home|262|01" ∷ "node|name|a,b" ∷ [])
     ∷ ("home|262|01" ∷ "node|v4|c000020" ∷ [])
     ∷ ("home|262|01" ∷ "node|v4|C0000207" ∷ [])
     ∷ ("home|262|01" ∷ "node|v6|c0000207" ∷ [])
@@ -46,6 +53,8 @@ illFormed =
     ∷ ("home|262|01" ∷ "plmn|901|01" ∷ [])
     ∷ ("home|262|01" ∷ "plmn|901|01|256" ∷ [])
     ∷ ("home|262|01" ∷ "plmn|901|01|00" ∷ [])
+    ∷ ("home|262|01" ∷ "plmn|901|01|05" ∷ [])
+    ∷ ("home|262|01" ∷ "plmn|901|01|" ∷ [])
     ∷ ("home|262|01" ∷ "plmn|901|01|1" ∷ "plmn|901|001|2" ∷ [])
     ∷ ("home|262|01" ∷ "bar|901|01" ∷ "bar|901|001" ∷ [])
     ∷ ("home|262|01" ∷ "bar|901|01" ∷ "plmn|902|01|1" ∷ [])
@@ -114,8 +123,15 @@ forms =
     -- a name has letters of either case, digits, hyphens and dots; an MNC has two digits or three
     ∷ record {
       before = toIdle;
-      calls = startBy ("home|262|001" ∷ "node|name|N3-iwf.x" ∷ "plmn|901|01|0" ∷ "plmn|901|100|255" ∷ "bar|901|01" ∷ []) ∷ [];
+      calls =
+          startBy ("home|262|001" ∷ "node|name|N3-iwf.x" ∷ "plmn|901|01|0" ∷ "plmn|901|100|255" ∷ "bar|901|01" ∷ [])
+          ∷ [];
       says = writes 64 (ask-text 23 8) (text "N3-iwf.x") [] ∷ [];
+    }
+    ∷ record {
+      before = toIdle;
+      calls = startBy ("home|262|01" ∷ "node|name|-AZaz09." ∷ []) ∷ [];
+      says = writes 64 (ask-text 22 8) (text "-AZaz09.") [] ∷ [];
     }
     -- and 1 to 253 of them
     ∷ record {
@@ -148,6 +164,7 @@ forms =
     }
     -- extensions are skipped and spare is ignored, in Start too; NAS is handed up as the part of the packet that holds it
     ∷ record { before = toAuth; calls = packet 1 16 254 0xAF 1 0 (9 ∷ 9 ∷ []) ∷ []; says = acts ask-nas ∷ [] }
+    ∷ record { before = toAuth; calls = packet 1 14 254 0xAF 1 1 [] ∷ []; says = acts ask-nas ∷ [] }
     ∷ record {
       before = toAnswered;
       calls = packet 1 20 254 0xAF 2 1 (0 ∷ 3 ∷ 0x7E ∷ 0x00 ∷ 0x41 ∷ 9 ∷ []) ∷ [];

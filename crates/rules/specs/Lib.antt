@@ -18,6 +18,7 @@ pub mod RefusalExamples
 pub mod FormExamples
 pub mod HoldExamples
 pub mod SoundExamples
+pub mod LayoutExamples
 pub mod Starred
 pub mod After
 pub mod Claims

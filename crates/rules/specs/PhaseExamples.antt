@@ -27,9 +27,9 @@ events =
     ∷ ike-delete ∷ []
 
 -- each event that has a number, a list or a text, with one out of its range
-unfoldable pub outOfRange : List Event
+unfoldable pub beyondRange : List Event
 unfolding abroad atHome nas network node parameters roaming startNumbers
-outOfRange =
+beyondRange =
     start (startNumbers 3 0 0 0 0 4) node 64 ∷ start (abroad 262) node 64 ∷ start atHome (zeros 1025) 64 ∷ country 2 [] roaming 64
     ∷ country 0 (network 901 1) roaming 64 ∷ country 1 (zeros 5) roaming 64 ∷ country 1 (network 1000 1) roaming 64 ∷ country 1 [] (zeros 1025) 64
     ∷ address (4 ∷ zeros 15) ∷ address (5 ∷ zeros 16) ∷ reply parameters [] 3090 ∷ reply parameters (zeros 2049) 3090 ∷ reply (zeros 1025) nas 3090
@@ -96,8 +96,8 @@ late e = record { before = e .before; time = 4294967296; tries = e .tries; says 
 
 -- a number, a list or a text out of its range: 8, allowed in this phase or not
 unfoldable pub beyond : Phased → Phased
-unfolding outOfRange
-beyond e = record { before = e .before; time = 100; tries = outOfRange; says = replicate (length outOfRange) 8 }
+unfolding beyondRange
+beyond e = record { before = e .before; time = 100; tries = beyondRange; says = replicate (length beyondRange) 8 }
 
 unfoldable pub phases : List Phased
 unfolding allowed beyond eachPhase early late toIdle

@@ -10,7 +10,7 @@ use Rattle.addresses.specs.Addresses.{addressOctets}
 use Rattle.text.specs.Text.{text}
 use Rattle.rules.specs.Answer.{nothing, stopped, ask-country, ask-built, chose, send-init, send-response}
 use Rattle.rules.specs.Call.{StartNumbers, start, country, address, begin, init, reply, final, error, congestion, give-up, child-made, child-deleted, Call, opening, closing, listing, timed}
-use Rattle.rules.specs.Cases.{abroad, acts, atHome, declined, declines, denied, done, firstReply, startNumbers, lists, nas, network, node, now, own, parameters, plain, roaming, shown, toChosen, toCountry, toFirst, toIdle, toLive, toName, toSure, writes}
+use Rattle.rules.specs.Cases.{abroad, acts, atHome, declined, declines, denied, done, firstReply, startNumbers, lists, nas, network, node, now, own, parameters, plain, roaming, shown, toChosen, toCountry, toFirst, toIdle, toLive, toName, toSure, writes, registeredTo}
 use Rattle.rules.specs.Computed.{Example, got, said}
 use Rattle.rules.specs.HoldExamples.{holdEach}
 
@@ -108,7 +108,7 @@ unfolding lowest got said
 lowest-computed = refl
 
 unfoldable pub ranges : List Example
-unfolding acts atHome declined declines startNumbers nas network now own parameters roaming shown startAtNode toChosen toCountry toFirst toIdle
+unfolding acts atHome declined declines startNumbers nas network now own parameters registeredTo roaming shown startAtNode toChosen toCountry toFirst toIdle
     toLive toName toSure writes
 ranges =
     -- 8: place one of three, MCC and MNC 0 to 999, a flag 0 or 1, local IP version 4 or 6; a number that a call does not have is 0
@@ -164,7 +164,11 @@ ranges =
           ∷ [];
     }
     -- a line that does not wait for the country answer has no such test
-    ∷ record { before = toName; calls = now (country 1 [] (shown "home|901|01") 64) ∷ []; says = declines 64 10 ∷ [] }
+    ∷ record {
+      before = toIdle ++ now (start (registeredTo 901 2) roaming 64) ∷ [];
+      calls = now (country 1 [] (shown "home|901|01") 64) ∷ [];
+      says = declines 64 10 ∷ [];
+    }
     -- a lent list of addresses that isn't at most 16 whole entries of version 4, with zeros behind it, or 6
     ∷ record {
       before = toName;

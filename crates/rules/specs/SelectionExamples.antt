@@ -3,6 +3,7 @@ use Prim.Native.Nat.{ℕ}
 use Prim.Native.String.{String}
 use mathlib.Core.List.{List, [], _∷_, _++_, map}
 use mathlib.Core.Path.{_≡_, refl}
+use Rattle.octets.specs.Part.{zeros}
 use Rattle.address.specs.declared.Address.{Address}
 use Rattle.address.specs.declared.Address.the-variants.{V4, V6}
 use Rattle.addresses.specs.Addresses.{addressOctets}
@@ -67,6 +68,9 @@ selections =
     ∷ starting atHome named (writes 64 (ask-text 22 13) (text "n3iwf.example") [])
     -- without `node`, the operator name of the home PLMN is asked, even with a `bar` record
     ∷ starting atHome plain (asks "n3iwf.5gc.mnc001.mcc262.pub.3gppnetwork.org")
+    -- with all three digits of its MNC, and whatever PLMN is registered to
+    ∷ starting atHome (shown "home|310|410") (asks "n3iwf.5gc.mnc410.mcc310.pub.3gppnetwork.org")
+    ∷ starting (startNumbers 1 0 1 901 2 4) plain (asks "n3iwf.5gc.mnc001.mcc262.pub.3gppnetwork.org")
     ∷ starting atHome (plain ++ shown "bar|262|001") (asks "n3iwf.5gc.mnc001.mcc262.pub.3gppnetwork.org")
     -- the octets past the written part are zeros, in a longer buffer too
     ∷ record {
@@ -92,6 +96,9 @@ selections =
     -- priorities are compared as numbers, of one digit, two or three
     ∷ answering (abroad 901) (plain ++ shown "plmn|901|01|10" ++ shown "plmn|901|02|9") 1 [] (asks "n3iwf.5gc.mnc002.mcc901.pub.3gppnetwork.org")
     ∷ answering (abroad 901) (plain ++ shown "plmn|901|01|100" ++ shown "plmn|901|02|99") 1 [] (asks "n3iwf.5gc.mnc002.mcc901.pub.3gppnetwork.org")
+    -- and before a `node` name or address
+    ∷ answering (abroad 901) (named ++ shown "plmn|901|01|5") 1 [] (asks "n3iwf.5gc.mnc001.mcc901.pub.3gppnetwork.org")
+    ∷ answering (abroad 901) (node ++ shown "plmn|901|01|5") 1 [] (asks "n3iwf.5gc.mnc001.mcc901.pub.3gppnetwork.org")
     -- none, and no such record: as S2
     ∷ answering (abroad 903) roaming 1 [] (asks "n3iwf.5gc.mnc001.mcc262.pub.3gppnetwork.org")
     ∷ answering (abroad 901) named 1 [] (writes 64 (ask-text 22 13) (text "n3iwf.example") [])
@@ -121,6 +128,17 @@ selections =
     ∷ answering (abroad 901) (plain ++ shown "bar|262|01") 1 (network 262 1) (gives (stopped 3 0))
     -- S5: the first with the local IP version is chosen, and the answer says how many were passed over
     ∷ choosing toName (V4 0xc0000207 ∷ V4 0xc0000208 ∷ []) (chose (V4 0xc0000207) 0)
+    -- the octets of an entry in the order of the address: 192.0.2.7 and 2001:db8::1
+    ∷ record {
+      before = toName;
+      calls = now (address (4 ∷ 0xC0 ∷ 0x00 ∷ 0x02 ∷ 0x07 ∷ zeros 12)) ∷ [];
+      says = acts (chose (V4 0xc0000207) 0) ∷ [];
+    }
+    ∷ record {
+      before = toIdle ++ now (start atHome6 named 64) ∷ [];
+      calls = now (address (6 ∷ 0x20 ∷ 0x01 ∷ 0x0D ∷ 0xB8 ∷ zeros 11 ++ 1 ∷ [])) ∷ [];
+      says = acts (chose (V6 0x20010db800000000 1) 0) ∷ [];
+    }
     ∷ choosing toName (V6 1 2 ∷ V6 1 3 ∷ V4 0xc0000207 ∷ []) (chose (V4 0xc0000207) 2)
     -- also more than two, and one address twice
     ∷ choosing toName (V6 1 2 ∷ V6 1 2 ∷ V6 1 3 ∷ V4 0xc0000207 ∷ []) (chose (V4 0xc0000207) 3)

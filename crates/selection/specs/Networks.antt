@@ -1,4 +1,4 @@
--- The claim `network-exactly`: which network is asked for abroad, at start (S3) and at a country answer that lists one or more (S4).
+-- The claim `NetworkExactly`: which network is asked for abroad, at start (S3) and at a country answer that lists one or more (S4).
 use Prim.Native.Nat.{ℕ}
 use mathlib.Core.Bool.{true, false}
 use mathlib.Core.List.{List, _∷_}

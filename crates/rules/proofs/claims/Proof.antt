@@ -4,6 +4,7 @@ use Rattle.response.proofs.Writing.{accepted, response-fits}
 use Rattle.rules.specs.Computed.{evaluated-is}
 use Rattle.rules.specs.FormExamples.{forms-computed}
 use Rattle.rules.specs.HoldExamples.{holds-computed, kept-computed}
+use Rattle.rules.specs.LayoutExamples.{layouts-computed}
 use Rattle.rules.specs.LifeExamples.{actions-computed, lives-computed}
 use Rattle.rules.specs.PhaseExamples.{phases-computed}
 use Rattle.rules.specs.RefusalExamples.{lowest-computed, ranges-computed}
@@ -73,6 +74,7 @@ returns c = record {
   forms = forms-computed;
   holdings = holds-computed;
   kept = kept-computed;
+  layouts = layouts-computed;
   sounds = sounds-computed;
   isolation = isolation;
   isolation-from = isolation-from;
