@@ -4,6 +4,7 @@ use eap::nas_of;
 use fields::fill;
 use fields::first;
 use libc::STDOUT_FILENO;
+use network::NAME_ROOM;
 use network::Plmn;
 use network::operator_name;
 use network::visited_name;
@@ -61,7 +62,7 @@ fn put_name(buffer: &[u8], n: usize) {
 pub fn put_operator(mcc: u64, mnc: u64)
     requires { ⌜ (mcc ≤ 999) × (mnc ≤ 999) ⌝ }
 {
-    let mut buffer = [0u8; 64];
+    let mut buffer = [0u8; NAME_ROOM];
     let n = operator_name(&mut buffer, Plmn { mcc, mnc });
     put_name(&buffer, n);
 }
@@ -70,7 +71,7 @@ pub fn put_operator(mcc: u64, mnc: u64)
 pub fn put_visited(mcc: u64)
     requires { ⌜ mcc ≤ 999 ⌝ }
 {
-    let mut buffer = [0u8; 64];
+    let mut buffer = [0u8; NAME_ROOM];
     let n = visited_name(&mut buffer, mcc);
     put_name(&buffer, n);
 }

@@ -18,6 +18,7 @@ use gateway::choose_one;
 use libc::STDOUT_FILENO;
 use lists::addresses_fit;
 use lists::networks_fit;
+use network::NAME_ROOM;
 use network::Plmn;
 use place::Facts;
 use place::Place;
@@ -141,7 +142,7 @@ fn put_found(found: Found) {
 fn put_asked(choice: Choice, text: &[u8])
     requires { ⌜ TextWithin (now text) choice ⌝ }
 {
-    let mut name = [0u8; 64];
+    let mut name = [0u8; NAME_ROOM];
     let n = build(choice, &mut name);
     put_text(b" ");
     put_text(asked(choice, text, &name, n));

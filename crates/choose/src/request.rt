@@ -6,6 +6,7 @@ use crate::facts::read_version;
 use choices::damage::put_cuts;
 use choices::damage::put_left;
 use choices::damage::put_struck;
+use config::MOST_TEXT;
 use fields::Said;
 use fields::count_fields;
 use fields::decimal;
@@ -45,10 +46,10 @@ fn answered(line: &[u8]) -> bool {
     }
     let spelt = field(line, 1);
     let n = spelt.len();
-    if 1024 < n {
+    if MOST_TEXT < n {
         return false;
     }
-    let mut buffer = [0u8; 1024];
+    let mut buffer = [0u8; MOST_TEXT];
     spell(spelt, &mut buffer);
     answered_text(line, &mut buffer[..n])
 }

@@ -7,6 +7,9 @@ use address::Address;
 use entry::field::Preferred;
 use network::Plmn;
 
+// A configuration text has at most so many octets.
+pub const MOST_TEXT: usize = 1024;
+
 // The most entries of one kind, `plmn` or `bar`, that a text has.
 pub const MOST_LISTED: usize = 16;
 

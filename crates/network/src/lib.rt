@@ -15,6 +15,9 @@ ghost use Rattle.network.specs.Plmn.{samePlmn};
 // The highest MCC and MNC.
 pub const MOST_CODE: u64 = 999;
 
+// A buffer for a name has at least so many octets.
+pub const NAME_ROOM: usize = 64;
+
 // A PLMN: the code of a country and the code of a network within it.
 pub struct Plmn {
     pub mcc: u64,
