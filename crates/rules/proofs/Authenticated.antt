@@ -26,7 +26,7 @@ use Rattle.table.specs.Table.{recordOf}
 use Rattle.table.proofs.Lookups.{open-line}
 use Rattle.table.proofs.Views.{open-found}
 use Rattle.rules.specs.After.{Chooses, chooses, finds-none, Decides, asks-text, asks-built, goes-through, stops, Transition, start-asks, start-decides, country-decides, address-answered, begun, init-answered, eap-started, eap-asked, first-replied, later-replied, eap-succeeded, final-good, final-bad, error-notified, congestion-told, given-up, child-added, child-taken, ike-deleted, LiveBy, was-live, auth-good, SureBy, was-sure, success}
-use Rattle.rules.specs.Answer.{Action}
+use Rattle.rules.specs.declared.Action.{Action}
 use Rattle.rules.specs.Call.{Event, eap, final, Call, opening, closing, listing, timed, pairOf, lastTime}
 use Rattle.rules.specs.Claims.{Good, Timed, lineIn}
 use Rattle.rules.specs.Histories.{isOctets}

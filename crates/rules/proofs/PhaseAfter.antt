@@ -39,7 +39,9 @@ use Rattle.selection.specs.declared.Choice.{Choice}
 use Rattle.selection.specs.declared.Choice.the-variants as Choice
 use Rattle.rules.specs.After.{Chooses, chooses, finds-none, Decides, asks-text, asks-built, goes-through, stops, Underway, in-auth, in-eap, in-sure, Transition, start-asks, start-decides, country-decides, address-answered, begun, init-answered, eap-started, eap-asked, first-replied, later-replied, eap-succeeded, final-good, final-bad, error-notified, given-up, child-added, child-taken, ike-deleted, PhaseAfter, endsEap}
 use Rattle.rules.specs.After as After
-use Rattle.rules.specs.Answer.{Action, Answer, ask-nas, hand-up, live, nothing, numbersOf, released, send-auth, send-auth-request, send-init, twelve}
+use Rattle.rules.specs.Answer.{Answer, numbersOf, twelve}
+use Rattle.rules.specs.declared.Action.{Action}
+use Rattle.rules.specs.declared.Action.the-variants as Action
 use Rattle.rules.specs.Call.{StartNumbers, Event, start, country, address, begin, init, eap, reply, final, error, congestion, give-up, child-made, child-deleted, ike-delete, timed, factsOf, lastTime}
 use Rattle.rules.specs.Claims.{Timed, lineIn}
 use Rattle.rules.specs.Life.{addressAnswered, congested, countryAnswered, current, decided, ended, finished, gatewayFound, goes, inPhase, keeps, nameAsked, onward, outcome, packetTaken, replied, started, withChildren}
@@ -196,38 +198,38 @@ module _ (x : Line) where
   addressed-row list listed (is-name f) = address-answered (found-row (choose (f .version) (heldAddresses (x .holds)) listed))
 
 -- the chosen address goes on
-begin-row : {p : Phase} → Is Stage.chosen p → Transition begin p (onward Init (chosen p)) send-init
+begin-row : {p : Phase} → Is Stage.chosen p → Transition begin p (onward Init (chosen p)) Action.SendInit
 unfolding onward chosen
 begin-row (is-chosen a) = begun
 
-init-row : {p : Phase} → Is Stage.init p → Transition init p (onward Auth (chosen p)) send-auth-request
+init-row : {p : Phase} → Is Stage.init p → Transition init p (onward Auth (chosen p)) Action.SendAuthRequest
 unfolding onward chosen
 init-row (is-init a) = init-answered
 
-final-row : (good : ℕ) {p : Phase} → good ≡ 1 → Is Stage.sure p → Transition (final good) p (onward Live (chosen p)) live
+final-row : (good : ℕ) {p : Phase} → good ≡ 1 → Is Stage.sure p → Transition (final good) p (onward Live (chosen p)) Action.Live
 unfolding onward chosen
-final-row good q (is-sure a) = subst (λ (n : ℕ). Transition (final n) (Sure a) (Live a) live) (sym q) final-good
+final-row good q (is-sure a) = subst (λ (n : ℕ). Transition (final n) (Sure a) (Live a) Action.Live) (sym q) final-good
 
-bad-row : (good : ℕ) {p : Phase} → good ≡ 0 → Is Stage.sure p → Transition (final good) p Idle (released 0)
-bad-row good q (is-sure a) = subst (λ (n : ℕ). Transition (final n) (Sure a) Idle (released 0)) (sym q) final-bad
+bad-row : (good : ℕ) {p : Phase} → good ≡ 0 → Is Stage.sure p → Transition (final good) p Idle (Action.Released 0)
+bad-row good q (is-sure a) = subst (λ (n : ℕ). Transition (final n) (Sure a) Idle (Action.Released 0)) (sym q) final-bad
 
-made-row : (spi session : ℕ) {p : Phase} → Is Stage.live p → Transition (child-made spi session) p p nothing
+made-row : (spi session : ℕ) {p : Phase} → Is Stage.live p → Transition (child-made spi session) p p Action.Nothing
 made-row spi session (is-live a) = child-added
 
-taken-row : (spi : ℕ) {p : Phase} → Is Stage.live p → Transition (child-deleted spi) p p nothing
+taken-row : (spi : ℕ) {p : Phase} → Is Stage.live p → Transition (child-deleted spi) p p Action.Nothing
 taken-row spi (is-live a) = child-taken
 
-deleted-row : {p : Phase} → Is Stage.live p → Transition ike-delete p Idle (released 0)
+deleted-row : {p : Phase} → Is Stage.live p → Transition ike-delete p Idle (Action.Released 0)
 deleted-row (is-live a) = ike-deleted
 
 -- EAP
 module _ (packet : List ℕ) {i : ℕ} where
-  begun-row : {p : Phase} → readPacket packet ≡ Start i → Is Stage.auth p → Transition (eap packet) p (onward (λ a. Eap a (First i)) (chosen p)) ask-nas
+  begun-row : {p : Phase} → readPacket packet ≡ Start i → Is Stage.auth p → Transition (eap packet) p (onward (λ a. Eap a (First i)) (chosen p)) Action.AskNas
   unfolding onward chosen
   begun-row r (is-auth a) = eap-started r
 
   asked-row : {at n : ℕ} {o : Option Turn} {p : Phase} → readPacket packet ≡ NasRequest i at n → InTurn o p → isSome (lastReply o) ≡ true
-      → Transition (eap packet) p (onward (λ a. Eap a (Owed i)) (chosen p)) (hand-up at n)
+      → Transition (eap packet) p (onward (λ a. Eap a (Owed i)) (chosen p)) (Action.HandUp at n)
   unfolding onward chosen lastReply isSome
   asked-row r (unturned q) h = absurd (false≢true h)
   asked-row r (turned a (First j)) h = absurd (false≢true h)
@@ -235,7 +237,7 @@ module _ (packet : List ℕ) {i : ℕ} where
   asked-row r (turned a (Answered j)) h = eap-asked r
 
   succeeded-row : {o : Option Turn} {p : Phase} → readPacket packet ≡ Success i → InTurn o p → isIdentifier i (lastReply o) ≡ true
-      → Transition (eap packet) p (onward Sure (chosen p)) send-auth
+      → Transition (eap packet) p (onward Sure (chosen p)) Action.SendAuth
   unfolding onward chosen lastReply isIdentifier
   succeeded-row r (unturned q) h = absurd (false≢true h)
   succeeded-row r (turned a (First j)) h = absurd (false≢true h)
@@ -289,7 +291,7 @@ module _ (x : Line) (out : Bool) where
   rows (congestion authenticated timer) h =
       let known = eqb-true authenticated 1 (and-left (eqb authenticated 1) (underway (x .phase)) (h .allowed)) in
       let ends = is-underway (x .phase) (and-right (eqb authenticated 1) (underway (x .phase)) (h .allowed)) in
-      subst (λ (n : ℕ). Transition (congestion n timer) (x .phase) Idle (released (ended (x .phase)))) (sym known) (After.congestion-told ends)
+      subst (λ (n : ℕ). Transition (congestion n timer) (x .phase) Idle (Action.Released (ended (x .phase)))) (sym known) (After.congestion-told ends)
   rows give-up h =
       let busy = not (isIn Stage.idle (x .phase)) in
       let calm = not (isIn Stage.live (x .phase)) in

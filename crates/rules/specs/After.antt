@@ -27,7 +27,9 @@ use Rattle.record.specs.Sound.{chosen}
 use Rattle.table.specs.Table.{freePair, recordOf}
 use Rattle.response.specs.Response.{response}
 use Rattle.timer.specs.Timer.{unitSeconds}
-use Rattle.rules.specs.Answer.{Action, nothing, stopped, ask-country, ask-text, ask-built, chose, send-init, send-auth-request, ask-nas, hand-up, send-response, send-auth, live, released, error-up, numbersOf}
+use Rattle.rules.specs.Answer.{numbersOf}
+use Rattle.rules.specs.declared.Action.{Action}
+use Rattle.rules.specs.declared.Action.the-variants as Action
 use Rattle.rules.specs.Call.{StartNumbers, Event, start, country, address, begin, init, eap, reply, final, error, congestion, give-up, child-made, child-deleted, ike-delete, Call, opening, closing, listing, timed, factsOf, pairOf}
 use Rattle.rules.specs.Life.{isOther}
 use Rattle.rules.specs.Phases.{lastReply, turnIn}
@@ -52,15 +54,15 @@ pub data LiveBy (c : Call) (tenant line : ℕ) : Option Line → Type 0 where
 
 -- S5: an address is chosen, the one that the answer says, or selection stops
 pub data Chooses : Phase → Action → Type 0 where
-  chooses : {a : Address} {passed : ℕ} → Chooses (Chosen a) (chose a passed)
-  finds-none : {passed : ℕ} → Chooses Idle (stopped 4 passed)
+  chooses : {a : Address} {passed : ℕ} → Chooses (Chosen a) (Action.Chose a passed)
+  finds-none : {passed : ℕ} → Chooses Idle (Action.Stopped 4 passed)
 
 -- S1 to S4 with place facts: name, chosen or idle, and the facts stay while the name is asked
 pub data Decides (f : Facts) : Phase → Action → Type 0 where
-  asks-text : {at n : ℕ} → Decides f (Name f) (ask-text at n)
-  asks-built : {n : ℕ} → Decides f (Name f) (ask-built n)
+  asks-text : {at n : ℕ} → Decides f (Name f) (Action.AskText at n)
+  asks-built : {n : ℕ} → Decides f (Name f) (Action.AskBuilt n)
   goes-through : {q : Phase} {action : Action} → Chooses q action → Decides f q action
-  stops : {n : ℕ} → Decides f Idle (stopped n 0)
+  stops : {n : ℕ} → Decides f Idle (Action.Stopped n 0)
 
 -- the phases auth, eap and sure, with 1 where EAP ends and 0 elsewhere
 pub data Underway : Phase → ℕ → Type 0 where
@@ -70,30 +72,30 @@ pub data Underway : Phase → ℕ → Type 0 where
 
 -- the table 'Life of a line' row by row: event, phase before, phase after and action; the chosen address goes along from chosen to live
 pub data Transition : Event → Phase → Phase → Action → Type 0 where
-  start-asks : {g : StartNumbers} {text : List ℕ} {room n : ℕ} → Transition (start g text room) Idle (Country (factsOf g)) (ask-country n)
+  start-asks : {g : StartNumbers} {text : List ℕ} {room n : ℕ} → Transition (start g text room) Idle (Country (factsOf g)) (Action.AskCountry n)
   start-decides : {g : StartNumbers} {text : List ℕ} {room : ℕ} {q : Phase} {action : Action} → Decides (factsOf g) q action
       → Transition (start g text room) Idle q action
   country-decides : {replied : ℕ} {networks text : List ℕ} {room : ℕ} {f : Facts} {q : Phase} {action : Action} → Decides f q action
       → Transition (country replied networks text room) (Country f) q action
   address-answered : {list : List ℕ} {f : Facts} {q : Phase} {action : Action} → Chooses q action → Transition (address list) (Name f) q action
-  begun : {a : Address} → Transition begin (Chosen a) (Init a) send-init
-  init-answered : {a : Address} → Transition init (Init a) (Auth a) send-auth-request
-  eap-started : {packet : List ℕ} {i : ℕ} {a : Address} → readPacket packet ≡ Start i → Transition (eap packet) (Auth a) (Eap a (First i)) ask-nas
+  begun : {a : Address} → Transition begin (Chosen a) (Init a) Action.SendInit
+  init-answered : {a : Address} → Transition init (Init a) (Auth a) Action.SendAuthRequest
+  eap-started : {packet : List ℕ} {i : ℕ} {a : Address} → readPacket packet ≡ Start i → Transition (eap packet) (Auth a) (Eap a (First i)) Action.AskNas
   eap-asked : {packet : List ℕ} {i at n j : ℕ} {a : Address} → readPacket packet ≡ NasRequest i at n
-      → Transition (eap packet) (Eap a (Answered j)) (Eap a (Owed i)) (hand-up at n)
+      → Transition (eap packet) (Eap a (Answered j)) (Eap a (Owed i)) (Action.HandUp at n)
   first-replied : {parameters nas : List ℕ} {room i : ℕ} {a : Address}
-      → Transition (reply parameters nas room) (Eap a (First i)) (Eap a (Answered i)) (send-response (length (response i parameters nas)))
+      → Transition (reply parameters nas room) (Eap a (First i)) (Eap a (Answered i)) (Action.SendResponse (length (response i parameters nas)))
   later-replied : {parameters nas : List ℕ} {room i : ℕ} {a : Address}
-      → Transition (reply parameters nas room) (Eap a (Owed i)) (Eap a (Answered i)) (send-response (length (response i parameters nas)))
-  eap-succeeded : {packet : List ℕ} {i : ℕ} {a : Address} → readPacket packet ≡ Success i → Transition (eap packet) (Eap a (Answered i)) (Sure a) send-auth
-  final-good : {a : Address} → Transition (final 1) (Sure a) (Live a) live
-  final-bad : {a : Address} → Transition (final 0) (Sure a) Idle (released 0)
-  error-notified : {number ended : ℕ} {p : Phase} → Underway p ended → Transition (error number) p Idle (error-up ended number)
-  congestion-told : {timer ended : ℕ} {p : Phase} → Underway p ended → Transition (congestion 1 timer) p Idle (released ended)
-  given-up : {p : Phase} → isIn Stage.idle p ≡ false → isIn Stage.live p ≡ false → Transition give-up p Idle nothing
-  child-added : {spi session : ℕ} {a : Address} → Transition (child-made spi session) (Live a) (Live a) nothing
-  child-taken : {spi : ℕ} {a : Address} → Transition (child-deleted spi) (Live a) (Live a) nothing
-  ike-deleted : {a : Address} → Transition ike-delete (Live a) Idle (released 0)
+      → Transition (reply parameters nas room) (Eap a (Owed i)) (Eap a (Answered i)) (Action.SendResponse (length (response i parameters nas)))
+  eap-succeeded : {packet : List ℕ} {i : ℕ} {a : Address} → readPacket packet ≡ Success i → Transition (eap packet) (Eap a (Answered i)) (Sure a) Action.SendAuth
+  final-good : {a : Address} → Transition (final 1) (Sure a) (Live a) Action.Live
+  final-bad : {a : Address} → Transition (final 0) (Sure a) Idle (Action.Released 0)
+  error-notified : {number ended : ℕ} {p : Phase} → Underway p ended → Transition (error number) p Idle (Action.ErrorUp ended number)
+  congestion-told : {timer ended : ℕ} {p : Phase} → Underway p ended → Transition (congestion 1 timer) p Idle (Action.Released ended)
+  given-up : {p : Phase} → isIn Stage.idle p ≡ false → isIn Stage.live p ≡ false → Transition give-up p Idle Action.Nothing
+  child-added : {spi session : ℕ} {a : Address} → Transition (child-made spi session) (Live a) (Live a) Action.Nothing
+  child-taken : {spi : ℕ} {a : Address} → Transition (child-deleted spi) (Live a) (Live a) Action.Nothing
+  ike-deleted : {a : Address} → Transition ike-delete (Live a) Idle (Action.Released 0)
 
 -- error and congestion end EAP on a line in eap, and no other event does
 unfoldable pub endsEap : Event → Bool

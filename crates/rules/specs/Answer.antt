@@ -5,6 +5,8 @@ use Rattle.octets.specs.Part.{zeros}
 use Rattle.address.specs.Address.{high, low, versionOf}
 use Rattle.address.specs.declared.Address.{Address}
 use Rattle.rules.specs.Call.{Event, start, country, address, begin, init, eap, reply, final, error, congestion, give-up, child-made, child-deleted, ike-delete, Call, opening, closing, listing, timed}
+use Rattle.rules.specs.declared.Action.{Action}
+use Rattle.rules.specs.declared.Action.the-variants as Action
 
 -- the refusal number or 0, the twelve numbers, the octets of the returned part, the answer buffer whole
 pub record Answer : Type 0 where
@@ -17,55 +19,27 @@ pub record Answer : Type 0 where
 abbrev pub numberCount : ℕ
 numberCount = 12
 
--- what the daemon has to do
-pub data Action : Type 0 where
-  nothing : Action
-  -- selection stopped: where, and how many addresses were passed over
-  stopped : ℕ → ℕ → Action
-  -- ask for the visited-country name: how many octets of the name buffer it has
-  ask-country : ℕ → Action
-  -- ask for the gateway name that lies in the text at a place, or in the name buffer
-  ask-text : ℕ → ℕ → Action
-  ask-built : ℕ → Action
-  -- an address is chosen, behind so many that were passed over
-  chose : Address → ℕ → Action
-  send-init : Action
-  send-auth-request : Action
-  ask-nas : Action
-  -- hand up NAS, which lies in the packet at a place
-  hand-up : ℕ → ℕ → Action
-  -- send so many octets of the reply buffer
-  send-response : ℕ → Action
-  send-auth : Action
-  live : Action
-  -- released, and whether an EAP session ended
-  released : ℕ → Action
-  -- hand the error up: whether an EAP session ended, and the number
-  error-up : ℕ → ℕ → Action
-  -- so many octets of the listing are written
-  listed : ℕ → Action
-
 unfoldable pub twelve : ℕ → ℕ → ℕ → ℕ → ℕ → ℕ → ℕ → ℕ → ℕ → ℕ → ℕ → ℕ → List ℕ
 twelve a b c d e f g h i j k l = a ∷ b ∷ c ∷ d ∷ e ∷ f ∷ g ∷ h ∷ i ∷ j ∷ k ∷ l ∷ []
 
 -- action, stop, passed; the part: where it is, its start, its length; version, high, low; EAP ended, error, written
 unfoldable pub numbersOf : Action → List ℕ
-numbersOf nothing = twelve 0 0 0 0 0 0 0 0 0 0 0 0
-numbersOf (stopped n k) = twelve 1 n k 0 0 0 0 0 0 0 0 0
-numbersOf (ask-country n) = twelve 2 0 0 2 0 n 0 0 0 0 0 n
-numbersOf (ask-text at n) = twelve 3 0 0 1 at n 0 0 0 0 0 0
-numbersOf (ask-built n) = twelve 3 0 0 2 0 n 0 0 0 0 0 n
-numbersOf (chose a k) = twelve 4 0 k 0 0 0 (versionOf a) (high a) (low a) 0 0 0
-numbersOf send-init = twelve 5 0 0 0 0 0 0 0 0 0 0 0
-numbersOf send-auth-request = twelve 6 0 0 0 0 0 0 0 0 0 0 0
-numbersOf ask-nas = twelve 7 0 0 0 0 0 0 0 0 0 0 0
-numbersOf (hand-up at n) = twelve 8 0 0 3 at n 0 0 0 0 0 0
-numbersOf (send-response n) = twelve 9 0 0 0 0 0 0 0 0 0 0 n
-numbersOf send-auth = twelve 10 0 0 0 0 0 0 0 0 0 0 0
-numbersOf live = twelve 11 0 0 0 0 0 0 0 0 0 0 0
-numbersOf (released ended) = twelve 12 0 0 0 0 0 0 0 0 ended 0 0
-numbersOf (error-up ended n) = twelve 13 0 0 0 0 0 0 0 0 ended n 0
-numbersOf (listed n) = twelve 0 0 0 0 0 0 0 0 0 0 0 n
+numbersOf Action.Nothing = twelve 0 0 0 0 0 0 0 0 0 0 0 0
+numbersOf (Action.Stopped n k) = twelve 1 n k 0 0 0 0 0 0 0 0 0
+numbersOf (Action.AskCountry n) = twelve 2 0 0 2 0 n 0 0 0 0 0 n
+numbersOf (Action.AskText at n) = twelve 3 0 0 1 at n 0 0 0 0 0 0
+numbersOf (Action.AskBuilt n) = twelve 3 0 0 2 0 n 0 0 0 0 0 n
+numbersOf (Action.Chose a k) = twelve 4 0 k 0 0 0 (versionOf a) (high a) (low a) 0 0 0
+numbersOf Action.SendInit = twelve 5 0 0 0 0 0 0 0 0 0 0 0
+numbersOf Action.SendAuthRequest = twelve 6 0 0 0 0 0 0 0 0 0 0 0
+numbersOf Action.AskNas = twelve 7 0 0 0 0 0 0 0 0 0 0 0
+numbersOf (Action.HandUp at n) = twelve 8 0 0 3 at n 0 0 0 0 0 0
+numbersOf (Action.SendResponse n) = twelve 9 0 0 0 0 0 0 0 0 0 0 n
+numbersOf Action.SendAuth = twelve 10 0 0 0 0 0 0 0 0 0 0 0
+numbersOf Action.Live = twelve 11 0 0 0 0 0 0 0 0 0 0 0
+numbersOf (Action.Released ended) = twelve 12 0 0 0 0 0 0 0 0 ended 0 0
+numbersOf (Action.ErrorUp ended n) = twelve 13 0 0 0 0 0 0 0 0 ended n 0
+numbersOf (Action.Listed n) = twelve 0 0 0 0 0 0 0 0 0 0 0 n
 
 -- how many octets the answer buffer has, none where there is no such buffer
 unfoldable pub eventRoom : Event → ℕ

@@ -9,7 +9,9 @@ use Rattle.octets.specs.Digits.{be}
 use Rattle.octets.specs.Part.{padded, zeros}
 use Rattle.text.specs.Text.{digitText, text}
 use Rattle.rules.specs.Run.{bare}
-use Rattle.rules.specs.Answer.{Action, Answer, listed, numbersOf, numberCount}
+use Rattle.rules.specs.Answer.{Answer, numbersOf, numberCount}
+use Rattle.rules.specs.declared.Action.{Action}
+use Rattle.rules.specs.declared.Action.the-variants as Action
 use Rattle.rules.specs.Call.{StartNumbers, Event, start, begin, init, eap, reply, final, congestion, Call, opening, timed}
 
 -- a record of a text as document 01 shows it: tabs as bars, ended by one newline
@@ -188,7 +190,7 @@ acts action = writes 0 action [] []
 
 unfoldable pub lists : List ℕ → Answer
 unfolding writes
-lists l = writes 1024 (listed (length l)) [] l
+lists l = writes 1024 (Action.Listed (length l)) [] l
 
 -- refused by a number, with an answer buffer of so many octets
 unfoldable pub declines : ℕ → ℕ → Answer

@@ -8,7 +8,8 @@ use Rattle.octets.specs.Digits.{be}
 use Rattle.octets.specs.Part.{zeros}
 use Rattle.octets.specs.Row.{joined, row}
 use Rattle.text.specs.Text.{digitText, text}
-use Rattle.rules.specs.Answer.{Answer, nothing, ask-built, ask-text, ask-nas, hand-up}
+use Rattle.rules.specs.Answer.{Answer}
+use Rattle.rules.specs.declared.Action.the-variants as Action
 use Rattle.rules.specs.Call.{start, country, eap, reply, child-made, child-deleted, Call}
 use Rattle.rules.specs.Cases.{acts, atHome, declined, declines, startNumbers, nas, now, plain, shown, toAnswered, toAuth, toCountry, toFirst, toIdle, toLive, writes, laterReply}
 use Rattle.rules.specs.Computed.{Example, got, said}
@@ -117,7 +118,7 @@ forms =
       calls = startFull 17 16 ∷ startFull 16 17 ∷ startFull 16 16 ∷ [];
       says =
           declines 64 9 ∷ declines 64 9
-          ∷ writes 64 (ask-built 43) (text "n3iwf.5gc.mnc001.mcc262.pub.3gppnetwork.org") (text "n3iwf.5gc.mnc001.mcc262.pub.3gppnetwork.org")
+          ∷ writes 64 (Action.AskBuilt 43) (text "n3iwf.5gc.mnc001.mcc262.pub.3gppnetwork.org") (text "n3iwf.5gc.mnc001.mcc262.pub.3gppnetwork.org")
           ∷ [];
     }
     -- a name has letters of either case, digits, hyphens and dots; an MNC has two digits or three
@@ -126,18 +127,18 @@ forms =
       calls =
           startBy ("home|262|001" ∷ "node|name|N3-iwf.x" ∷ "plmn|901|01|0" ∷ "plmn|901|100|255" ∷ "bar|901|01" ∷ [])
           ∷ [];
-      says = writes 64 (ask-text 23 8) (text "N3-iwf.x") [] ∷ [];
+      says = writes 64 (Action.AskText 23 8) (text "N3-iwf.x") [] ∷ [];
     }
     ∷ record {
       before = toIdle;
       calls = startBy ("home|262|01" ∷ "node|name|-AZaz09." ∷ []) ∷ [];
-      says = writes 64 (ask-text 22 8) (text "-AZaz09.") [] ∷ [];
+      says = writes 64 (Action.AskText 22 8) (text "-AZaz09.") [] ∷ [];
     }
     -- and 1 to 253 of them
     ∷ record {
       before = toIdle;
       calls = startNamed 254 ∷ startNamed 253 ∷ [];
-      says = declines 64 9 ∷ writes 64 (ask-text 22 253) (replicate 253 97) [] ∷ [];
+      says = declines 64 9 ∷ writes 64 (Action.AskText 22 253) (replicate 253 97) [] ∷ [];
     }
     -- 9: every packet but Start, NAS requests and Success, here with another code, length, type, vendor or message
     ∷ record {
@@ -160,15 +161,15 @@ forms =
     ∷ record {
       before = toAnswered;
       calls = nasRequest 2049 ∷ nasRequest 2048 ∷ [];
-      says = declined 9 ∷ writes 0 (hand-up 16 2048) (zeros 2048) [] ∷ [];
+      says = declined 9 ∷ writes 0 (Action.HandUp 16 2048) (zeros 2048) [] ∷ [];
     }
     -- extensions are skipped and spare is ignored, in Start too; NAS is handed up as the part of the packet that holds it
-    ∷ record { before = toAuth; calls = packet 1 16 254 0xAF 1 0 (9 ∷ 9 ∷ []) ∷ []; says = acts ask-nas ∷ [] }
-    ∷ record { before = toAuth; calls = packet 1 14 254 0xAF 1 1 [] ∷ []; says = acts ask-nas ∷ [] }
+    ∷ record { before = toAuth; calls = packet 1 16 254 0xAF 1 0 (9 ∷ 9 ∷ []) ∷ []; says = acts Action.AskNas ∷ [] }
+    ∷ record { before = toAuth; calls = packet 1 14 254 0xAF 1 1 [] ∷ []; says = acts Action.AskNas ∷ [] }
     ∷ record {
       before = toAnswered;
       calls = packet 1 20 254 0xAF 2 1 (0 ∷ 3 ∷ 0x7E ∷ 0x00 ∷ 0x41 ∷ 9 ∷ []) ∷ [];
-      says = writes 0 (hand-up 16 3) (0x7E ∷ 0x00 ∷ 0x41 ∷ []) [] ∷ [];
+      says = writes 0 (Action.HandUp 16 3) (0x7E ∷ 0x00 ∷ 0x41 ∷ []) [] ∷ [];
     }
     -- an AN block that doesn't end exactly is 9
     ∷ record {
@@ -180,7 +181,7 @@ forms =
     ∷ record {
       before = toLive ++ row makeChild 0x100 7;
       calls = makeChild 0x103 ∷ makeChild 0x107 ∷ makeChild 0x108 ∷ makeChild 0x103 ∷ now (child-deleted 0x103) ∷ makeChild 0x108 ∷ [];
-      says = declined 11 ∷ acts nothing ∷ declined 12 ∷ declined 11 ∷ acts nothing ∷ acts nothing ∷ [];
+      says = declined 11 ∷ acts Action.Nothing ∷ declined 12 ∷ declined 11 ∷ acts Action.Nothing ∷ acts Action.Nothing ∷ [];
     }
     ∷ []
 

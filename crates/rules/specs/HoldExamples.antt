@@ -11,7 +11,8 @@ use Rattle.address.specs.declared.Hold.{Hold}
 use Rattle.holds.specs.Holds.{endNumber}
 use Rattle.record.specs.Line.{Line}
 use Rattle.table.specs.Slots.{lineAt}
-use Rattle.rules.specs.Answer.{Answer, nothing, stopped, chose, send-init, send-auth-request, released}
+use Rattle.rules.specs.Answer.{Answer}
+use Rattle.rules.specs.declared.Action.the-variants as Action
 use Rattle.rules.specs.Call.{start, begin, init, error, congestion, give-up, Call, opening, closing, timed, pairOf}
 use Rattle.rules.specs.Cases.{acts, atHome, atHome6, congest, declines, done, startNumbers, node, node6, nodeAt, now, own, toAuth, toIdle, writes}
 use Rattle.rules.specs.Computed.{Example, evaluated, got, said, slotsAfter}
@@ -23,11 +24,11 @@ startAt time = own time (start atHome node 64)
 
 unfoldable pub stopsHeld : Answer
 unfolding writes
-stopsHeld = writes 64 (stopped 4 1) [] []
+stopsHeld = writes 64 (Action.Stopped 4 1) [] []
 
 unfoldable pub choosesFree : Answer
 unfolding writes
-choosesFree = writes 64 (chose (V4 0xc0000207) 0) [] []
+choosesFree = writes 64 (Action.Chose (V4 0xc0000207) 0) [] []
 
 -- the address of `node` is congested at 100 by a timer octet
 unfoldable pub congestedBy : ℕ → List Call
@@ -70,7 +71,7 @@ holdings =
     ∷ record {
       before = toIdle ++ now (start atHome6 node6 64) ∷ now begin ∷ now init ∷ now (congestion 1 0x61) ∷ [];
       calls = own 101 (start atHome6 node6 64) ∷ own 102 (start atHome6 node6 64) ∷ [];
-      says = stopsHeld ∷ writes 64 (chose (V6 0x20010db800000000 1) 0) [] [] ∷ [];
+      says = stopsHeld ∷ writes 64 (Action.Chose (V6 0x20010db800000000 1) 0) [] [] ∷ [];
     }
     -- count 0 with units 0 to 6 sets no hold
     ∷ record { before = congestedBy 0x00; calls = startAt 100 ∷ []; says = choosesFree ∷ [] }
@@ -81,7 +82,7 @@ holdings =
     ∷ record {
       before = congestedBy 0xE0;
       calls = now (start atHome (nodeAt 0xc0000208) 64) ∷ now give-up ∷ startAt 100 ∷ [];
-      says = writes 64 (chose (V4 0xc0000208) 0) [] [] ∷ acts nothing ∷ stopsHeld ∷ [];
+      says = writes 64 (Action.Chose (V4 0xc0000208) 0) [] [] ∷ acts Action.Nothing ∷ stopsHeld ∷ [];
     }
     -- a hold is its line's own
     ∷ record {
@@ -100,7 +101,7 @@ holdings =
       before = toIdle ++ holdEach 1 7;
       calls = congest 100 8 0xE0 ++ startAt 100 ∷ now (start (startNumbers 0 0 0 0 0 4) node 64) ∷ now (start atHome [] 64) ∷ [];
       says =
-          writes 64 (chose (V4 8) 0) [] [] ∷ acts send-init ∷ acts send-auth-request ∷ acts (released 0) ∷ declines 64 13 ∷ declines 64 13
+          writes 64 (Action.Chose (V4 8) 0) [] [] ∷ acts Action.SendInit ∷ acts Action.SendAuthRequest ∷ acts (Action.Released 0) ∷ declines 64 13 ∷ declines 64 13
           ∷ declines 64 9 ∷ [];
     }
     -- the holds in force at the call's own time are counted

@@ -38,7 +38,8 @@ use Rattle.selection.specs.declared.Choice.the-variants as Choice
 use Rattle.timer.specs.Timer.{timerOf}
 use Rattle.timer.specs.declared.Timer.{Timer}
 use Rattle.timer.specs.declared.Timer.the-variants as Timer
-use Rattle.rules.specs.Answer.{Action, nothing, stopped, ask-country, ask-text, ask-built, chose, send-init, send-auth-request, ask-nas, hand-up, send-response, send-auth, live, released, error-up}
+use Rattle.rules.specs.declared.Action.{Action}
+use Rattle.rules.specs.declared.Action.the-variants as Action
 use Rattle.rules.specs.Call.{Event, start, country, address, begin, init, eap, reply, final, error, congestion, give-up, child-made, child-deleted, ike-delete, factsOf}
 use Rattle.rules.specs.Phases.{factsIn, owed, turnIn}
 
@@ -72,7 +73,7 @@ goes x p action = becomes (inPhase x p) action
 
 -- stands where a refusal comes first, so that no accepted call gets there
 abbrev pub unreached : Line → Outcome
-unreached x = goes x Idle nothing
+unreached x = goes x Idle Action.Nothing
 
 -- the chosen address goes on into another phase; a phase without one is refused by 10
 unfoldable pub onward : (Address → Phase) → Option Address → Phase
@@ -84,8 +85,8 @@ keeps x f action = goes x (onward f (chosen (x .phase))) action
 
 -- S5: the address is chosen, or selection stops; either says how many addresses were passed over
 unfoldable pub gatewayFound : Line → Found → Outcome
-gatewayFound x (Found.Chosen a k) = goes x (Chosen a) (chose a k)
-gatewayFound x (Found.Nothing k) = goes x Idle (stopped 4 k)
+gatewayFound x (Found.Chosen a k) = goes x (Chosen a) (Action.Chose a k)
+gatewayFound x (Found.Nothing k) = goes x Idle (Action.Stopped 4 k)
 
 -- a name is asked: its octets are the part, and those that are built are written
 unfoldable pub nameAsked : Line → Phase → Action → List ℕ → Choice → Outcome
@@ -93,14 +94,14 @@ nameAsked x p action text c = record { line = inPhase x p; action = action; part
 
 -- S1 to S4: selection stops, a name is asked, or a `node` address is treated as an answer list of one
 unfoldable pub decided : Line → Facts → List ℕ → Choice → Outcome
-decided x f text (Choice.Stop n) = goes x Idle (stopped n 0)
+decided x f text (Choice.Stop n) = goes x Idle (Action.Stopped n 0)
 decided x f text (Choice.Country mcc) =
     let c = Choice.Country mcc in
-    nameAsked x (Country f) (ask-country (length (built c))) text c
-decided x f text (Choice.Text at n) = nameAsked x (Name f) (ask-text at n) text (Choice.Text at n)
+    nameAsked x (Country f) (Action.AskCountry (length (built c))) text c
+decided x f text (Choice.Text at n) = nameAsked x (Name f) (Action.AskText at n) text (Choice.Text at n)
 decided x f text (Choice.Network p) =
     let c = Choice.Network p in
-    nameAsked x (Name f) (ask-built (length (built c))) text c
+    nameAsked x (Name f) (Action.AskBuilt (length (built c))) text c
 decided x f text (Choice.Address a) = gatewayFound x (choose (f .version) (heldAddresses (x .holds)) (a ∷ []))
 
 -- start, by the lent text; one that isn't well formed is refused by 9
@@ -121,14 +122,14 @@ addressAnswered x (some f) list = gatewayFound x (choose (f .version) (heldAddre
 
 -- EAP Start: identifier owed, ask for NAS; EAP NAS: identifier owed, hand NAS up; EAP Success: send AUTH; every other packet is refused by 9
 unfoldable pub packetTaken : Line → List ℕ → Packet → Outcome
-packetTaken x packet (Start i) = keeps x (λ a. Eap a (First i)) ask-nas
+packetTaken x packet (Start i) = keeps x (λ a. Eap a (First i)) Action.AskNas
 packetTaken x packet (NasRequest i at n) = record {
   line = inPhase x (onward (λ a. Eap a (Owed i)) (chosen (x .phase)));
-  action = hand-up at n;
+  action = Action.HandUp at n;
   part = nasOf packet (NasRequest i at n);
   written = [];
 }
-packetTaken x packet (Success i) = keeps x Sure send-auth
+packetTaken x packet (Success i) = keeps x Sure Action.SendAuth
 packetTaken x packet (NasResponse i p m at n) = unreached x
 packetTaken x packet (Stop i) = unreached x
 packetTaken x packet Other = unreached x
@@ -140,15 +141,15 @@ replied x parameters nas (some i) =
     let r = response i parameters nas in
     record {
       line = inPhase x (onward (λ a. Eap a (Answered i)) (chosen (x .phase)));
-      action = send-response (length r);
+      action = Action.SendResponse (length r);
       part = [];
       written = r;
     }
 
 -- final answer, AUTH good or bad
 unfoldable pub finished : Line → Bool → Outcome
-finished x true = keeps x Live live
-finished x false = goes x Idle (released 0)
+finished x true = keeps x Live Action.Live
+finished x false = goes x Idle (Action.Released 0)
 
 -- EAP ended if eap
 unfoldable pub ended : Phase → ℕ
@@ -187,14 +188,14 @@ outcome (start g text room) x = started x (factsOf g) text (configOf text)
 outcome (country n networks text room) x =
     countryAnswered x (factsIn (x .phase)) (Selection.countryReply (eqb n 1) (networksIn networks)) text (configOf text)
 outcome (address addresses) x = addressAnswered x (factsIn (x .phase)) (addressesIn addresses)
-outcome begin x = keeps x Init send-init
-outcome init x = keeps x Auth send-auth-request
+outcome begin x = keeps x Init Action.SendInit
+outcome init x = keeps x Auth Action.SendAuthRequest
 outcome (eap packet) x = packetTaken x packet (readPacket packet)
 outcome (reply parameters nas room) x = replied x parameters nas (owed (turnIn (x .phase)))
 outcome (final good) x = finished x (eqb good 1)
-outcome (error number) x = goes x Idle (error-up (ended (x .phase)) number)
-outcome (congestion authenticated timer) x = becomes (congested x (timerOf timer)) (released (ended (x .phase)))
-outcome give-up x = goes x Idle nothing
-outcome (child-made spi session) x = becomes (withChildren x (x .children ++ record { spi = spi; session = session } ∷ [])) nothing
-outcome (child-deleted spi) x = becomes (withChildren x (only (isOther spi) (x .children))) nothing
-outcome ike-delete x = becomes (withChildren (inPhase x Idle) []) (released 0)
+outcome (error number) x = goes x Idle (Action.ErrorUp (ended (x .phase)) number)
+outcome (congestion authenticated timer) x = becomes (congested x (timerOf timer)) (Action.Released (ended (x .phase)))
+outcome give-up x = goes x Idle Action.Nothing
+outcome (child-made spi session) x = becomes (withChildren x (x .children ++ record { spi = spi; session = session } ∷ [])) Action.Nothing
+outcome (child-deleted spi) x = becomes (withChildren x (only (isOther spi) (x .children))) Action.Nothing
+outcome ike-delete x = becomes (withChildren (inPhase x Idle) []) (Action.Released 0)

@@ -5,7 +5,9 @@ use mathlib.Core.List.{List, [], _∷_, _++_, map}
 use mathlib.Core.Path.{_≡_, refl}
 use Rattle.address.specs.Address.{high, low, numberOf, versionOf}
 use Rattle.address.specs.declared.Address.the-variants.{V4, V6}
-use Rattle.rules.specs.Answer.{Action, nothing, stopped, ask-country, ask-text, ask-built, chose, send-init, send-auth-request, ask-nas, hand-up, send-response, send-auth, live, released, error-up, listed, numbersOf, twelve}
+use Rattle.rules.specs.Answer.{numbersOf, twelve}
+use Rattle.rules.specs.declared.Action.{Action}
+use Rattle.rules.specs.declared.Action.the-variants as Action
 use Rattle.rules.specs.Call.{Event, start, begin, init, eap, reply, final, error, congestion, give-up, child-made, child-deleted, ike-delete, Call, opening, closing, listing, timed}
 use Rattle.rules.specs.Cases.{acts, atHome, atHome6, declined, done, firstReply, lists, nas, nasPacket, node, node6, now, own, parameters, shown, startPacket, success, toAnswered, toAuth, toChosen, toCountry, toFirst, toIdle, toInit, toLive, toName, toOwed, toSure, writes, laterReply}
 use Rattle.rules.specs.Computed.{Example, got, said}
@@ -52,9 +54,9 @@ lives =
           ∷ now (eap (nasPacket 7)) ∷ now (reply [] nas 3090) ∷ now (eap (success 7)) ∷ now (final 1) ∷ now (child-made 0xc0de 5)
           ∷ now (child-made 0x100 15) ∷ [];
       says =
-          done ∷ writes 64 (chose (V4 0xc0000207) 0) [] [] ∷ acts send-init ∷ acts send-auth-request ∷ acts ask-nas
-          ∷ writes 3090 (send-response 22) [] firstReply ∷ writes 0 (hand-up 16 2) (0x7E ∷ 0x01 ∷ []) []
-          ∷ writes 3090 (send-response 19) [] laterReply ∷ acts send-auth ∷ acts live ∷ acts nothing ∷ acts nothing ∷ [];
+          done ∷ writes 64 (Action.Chose (V4 0xc0000207) 0) [] [] ∷ acts Action.SendInit ∷ acts Action.SendAuthRequest ∷ acts Action.AskNas
+          ∷ writes 3090 (Action.SendResponse 22) [] firstReply ∷ writes 0 (Action.HandUp 16 2) (0x7E ∷ 0x01 ∷ []) []
+          ∷ writes 3090 (Action.SendResponse 19) [] laterReply ∷ acts Action.SendAuth ∷ acts Action.Live ∷ acts Action.Nothing ∷ acts Action.Nothing ∷ [];
     }
     -- the listing of document 01: open lines by rising number, whatever the order in which they were opened
     ∷ record {
@@ -67,7 +69,7 @@ lives =
       before = toChildren;
       calls = listing 0 1024 ∷ now (child-deleted 0xc0de) ∷ listing 0 1024 ∷ [];
       says =
-          lists (shown "line|0|live|c0000207|2" ++ shown "child|0|0000c0de|5" ++ shown "child|0|00000100|15") ∷ acts nothing
+          lists (shown "line|0|live|c0000207|2" ++ shown "child|0|0000c0de|5" ++ shown "child|0|00000100|15") ∷ acts Action.Nothing
           ∷ lists (shown "line|0|live|c0000207|1" ++ shown "child|0|00000100|15") ∷ [];
     }
     -- a child record has its line
@@ -104,34 +106,34 @@ lives =
     ∷ standing toSure "line|0|sure|c0000207|0"
     ∷ standing toLive "line|0|live|c0000207|0"
     -- final answer, AUTH bad: idle, released
-    ∷ ending toSure (final 0) (released 0)
+    ∷ ending toSure (final 0) (Action.Released 0)
     -- error notify 1 to 16,383: idle, error up, EAP ended if eap
-    ∷ ending toAuth (error 1) (error-up 0 1)
-    ∷ ending toFirst (error 24) (error-up 1 24)
-    ∷ ending toSure (error 16383) (error-up 0 16383)
+    ∷ ending toAuth (error 1) (Action.ErrorUp 0 1)
+    ∷ ending toFirst (error 24) (Action.ErrorUp 1 24)
+    ∷ ending toSure (error 16383) (Action.ErrorUp 0 16383)
     -- congestion: idle, released, EAP ended if eap
-    ∷ ending toAuth (congestion 1 0x61) (released 0)
-    ∷ ending toAnswered (congestion 1 0x61) (released 1)
-    ∷ ending toSure (congestion 1 0x61) (released 0)
+    ∷ ending toAuth (congestion 1 0x61) (Action.Released 0)
+    ∷ ending toAnswered (congestion 1 0x61) (Action.Released 1)
+    ∷ ending toSure (congestion 1 0x61) (Action.Released 0)
     -- give up: idle, with no action
-    ∷ ending toCountry give-up nothing
-    ∷ ending toName give-up nothing
-    ∷ ending toChosen give-up nothing
-    ∷ ending toInit give-up nothing
-    ∷ ending toAuth give-up nothing
-    ∷ ending toFirst give-up nothing
-    ∷ ending toSure give-up nothing
+    ∷ ending toCountry give-up Action.Nothing
+    ∷ ending toName give-up Action.Nothing
+    ∷ ending toChosen give-up Action.Nothing
+    ∷ ending toInit give-up Action.Nothing
+    ∷ ending toAuth give-up Action.Nothing
+    ∷ ending toFirst give-up Action.Nothing
+    ∷ ending toSure give-up Action.Nothing
     -- IKE delete: idle, no child, released
-    ∷ ending toChildren ike-delete (released 0)
+    ∷ ending toChildren ike-delete (Action.Released 0)
     -- EAP NAS has the identifier of its response, and Success has to have that of the last reply
     ∷ record {
       before = toAnswered;
       calls = now (eap (nasPacket 9)) ∷ now (eap (success 9)) ∷ now (reply [] nas 3090) ∷ now (eap (success 7)) ∷ now (eap (success 9)) ∷ [];
       says =
-          writes 0 (hand-up 16 2) (0x7E ∷ 0x01 ∷ []) [] ∷ declined 10
-          ∷ writes 3090 (send-response 19) []
+          writes 0 (Action.HandUp 16 2) (0x7E ∷ 0x01 ∷ []) [] ∷ declined 10
+          ∷ writes 3090 (Action.SendResponse 19) []
           (0x02 ∷ 0x09 ∷ 0x00 ∷ 0x13 ∷ 0xFE ∷ 0x00 ∷ 0x28 ∷ 0xAF ∷ 0x00 ∷ 0x00 ∷ 0x00 ∷ 0x03 ∷ 0x02 ∷ 0x00 ∷ 0x00 ∷ 0x00 ∷ 0x00 ∷ 0x01 ∷ 0x7E ∷ [])
-          ∷ declined 10 ∷ acts send-auth ∷ [];
+          ∷ declined 10 ∷ acts Action.SendAuth ∷ [];
     }
     -- closing fills the record with zeros: opened again and live again, the line has no child
     ∷ standing (toChildren ++ closing 0 0 ∷ toLive) "line|0|live|c0000207|0"
@@ -139,7 +141,7 @@ lives =
     ∷ record {
       before = toChildren;
       calls = own 99 ike-delete ∷ closing 0 0 ∷ opening 0 0 ∷ own 0 (start atHome node 64) ∷ [];
-      says = declined 7 ∷ done ∷ done ∷ writes 64 (chose (V4 0xc0000207) 0) [] [] ∷ [];
+      says = declined 7 ∷ done ∷ done ∷ writes 64 (Action.Chose (V4 0xc0000207) 0) [] [] ∷ [];
     }
     ∷ []
 
@@ -150,8 +152,8 @@ lives-computed = refl
 -- every action in the order of the numbers that name actions, and last a listing, whose number is 0
 unfoldable pub actions : List Action
 actions =
-    nothing ∷ stopped 4 2 ∷ ask-country 52 ∷ ask-text 22 13 ∷ ask-built 43 ∷ chose (V4 5) 2 ∷ chose (V6 8 9) 1 ∷ send-init ∷ send-auth-request
-    ∷ ask-nas ∷ hand-up 16 3 ∷ send-response 19 ∷ send-auth ∷ live ∷ released 1 ∷ error-up 1 24 ∷ listed 42 ∷ []
+    Action.Nothing ∷ Action.Stopped 4 2 ∷ Action.AskCountry 52 ∷ Action.AskText 22 13 ∷ Action.AskBuilt 43 ∷ Action.Chose (V4 5) 2 ∷ Action.Chose (V6 8 9) 1 ∷ Action.SendInit ∷ Action.SendAuthRequest
+    ∷ Action.AskNas ∷ Action.HandUp 16 3 ∷ Action.SendResponse 19 ∷ Action.SendAuth ∷ Action.Live ∷ Action.Released 1 ∷ Action.ErrorUp 1 24 ∷ Action.Listed 42 ∷ []
 
 -- the twelve numbers of each
 unfoldable pub actionNumbers : List (List ℕ)

@@ -8,7 +8,7 @@ use Rattle.octets.specs.Row.{joined, row}
 use Rattle.address.specs.declared.Address.the-variants.{V4}
 use Rattle.addresses.specs.Addresses.{addressOctets}
 use Rattle.text.specs.Text.{text}
-use Rattle.rules.specs.Answer.{nothing, stopped, ask-country, ask-built, chose, send-init, send-response}
+use Rattle.rules.specs.declared.Action.the-variants as Action
 use Rattle.rules.specs.Call.{StartNumbers, start, country, address, begin, init, reply, final, error, congestion, give-up, child-made, child-deleted, Call, opening, closing, listing, timed}
 use Rattle.rules.specs.Cases.{abroad, acts, atHome, declined, declines, denied, done, firstReply, startNumbers, lists, nas, network, node, now, own, parameters, plain, roaming, shown, toChosen, toCountry, toFirst, toIdle, toLive, toName, toSure, writes, registeredTo}
 use Rattle.rules.specs.Computed.{Example, got, said}
@@ -49,14 +49,14 @@ lowest =
           ∷ listing 0 1023 ∷ listing 0 1024 ∷ [];
       says =
           declines 63 3
-          ∷ writes 64 (ask-country 52) (text "n3iwf.5gc.mcc901.visited-country.pub.3gppnetwork.org")
+          ∷ writes 64 (Action.AskCountry 52) (text "n3iwf.5gc.mcc901.visited-country.pub.3gppnetwork.org")
           (text "n3iwf.5gc.mcc901.visited-country.pub.3gppnetwork.org")
-          ∷ declines 63 3 ∷ writes 64 (stopped 2 0) [] [] ∷ declines 1023 3 ∷ lists (shown "line|0|idle|-|0") ∷ [];
+          ∷ declines 63 3 ∷ writes 64 (Action.Stopped 2 0) [] [] ∷ declines 1023 3 ∷ lists (shown "line|0|idle|-|0") ∷ [];
     }
     ∷ record {
       before = toFirst;
       calls = now (reply parameters nas 3089) ∷ now (reply parameters nas 3090) ∷ [];
-      says = declines 3089 3 ∷ writes 3090 (send-response 22) [] firstReply ∷ [];
+      says = declines 3089 3 ∷ writes 3090 (Action.SendResponse 22) [] firstReply ∷ [];
     }
     -- 4: open, and the pair is open already; 5: the pair isn't open
     ∷ record {
@@ -75,13 +75,13 @@ lowest =
       before =
           toChosen ++ opening 0 1 ∷ opening 1 0 ∷ timed 0 1 500 (start atHome node 64) ∷ timed 1 0 900 (start atHome node 64) ∷ [];
       calls = own 99 begin ∷ own 100 begin ∷ timed 0 1 499 begin ∷ timed 1 0 899 begin ∷ [];
-      says = declined 7 ∷ acts send-init ∷ declined 7 ∷ declined 7 ∷ [];
+      says = declined 7 ∷ acts Action.SendInit ∷ declined 7 ∷ declined 7 ∷ [];
     }
     -- the time is stored when accepted, and not when refused
     ∷ record {
       before = toChosen;
       calls = own 200 init ∷ own 150 begin ∷ own 149 give-up ∷ own 150 give-up ∷ [];
-      says = declined 10 ∷ acts send-init ∷ declined 7 ∷ acts nothing ∷ [];
+      says = declined 10 ∷ acts Action.SendInit ∷ declined 7 ∷ acts Action.Nothing ∷ [];
     }
     -- 13: start, and eight holds are in force; below it 7, 8 and 9, and another event is 10
     ∷ record {
@@ -98,8 +98,8 @@ lowest =
           worst 16 4 99 63 ∷ worst 0 1 99 63 ∷ worst 0 1 99 64 ∷ worst 0 0 99 64 ∷ worst 0 0 100 64 ∷ now (start atHome [] 64)
           ∷ now (start atHome node 64) ∷ now give-up ∷ now (start atHome node 64) ∷ [];
       says =
-          declines 63 2 ∷ declines 63 3 ∷ declines 64 5 ∷ declines 64 7 ∷ declines 64 8 ∷ declines 64 9 ∷ declines 64 10 ∷ acts nothing
-          ∷ writes 64 (chose (V4 0xc0000207) 0) [] [] ∷ [];
+          declines 63 2 ∷ declines 63 3 ∷ declines 64 5 ∷ declines 64 7 ∷ declines 64 8 ∷ declines 64 9 ∷ declines 64 10 ∷ acts Action.Nothing
+          ∷ writes 64 (Action.Chose (V4 0xc0000207) 0) [] [] ∷ [];
     }
     ∷ []
 
@@ -122,7 +122,7 @@ ranges =
           ∷ startNumbers 2 262 0 0 0 4 ∷ startNumbers 2 999 1 999 999 4 ∷ []);
       says =
           replicate 11 (declines 64 8)
-          ++ writes 64 (ask-country 52) (text "n3iwf.5gc.mcc999.visited-country.pub.3gppnetwork.org")
+          ++ writes 64 (Action.AskCountry 52) (text "n3iwf.5gc.mcc999.visited-country.pub.3gppnetwork.org")
           (text "n3iwf.5gc.mcc999.visited-country.pub.3gppnetwork.org")
           ∷ [];
     }
@@ -148,7 +148,7 @@ ranges =
     ∷ record {
       before = toChosen;
       calls = own 4294967296 begin ∷ own 4294967295 begin ∷ [];
-      says = declined 8 ∷ acts send-init ∷ [];
+      says = declined 8 ∷ acts Action.SendInit ∷ [];
     }
     -- a lent list of networks that isn't at most 16 whole entries in their range, or that comes without a reply
     ∷ record {
@@ -160,7 +160,7 @@ ranges =
           ∷ now (country 1 [] (shown "home|901|01") 64) ∷ now (country 1 (zeros 64) roaming 64) ∷ [];
       says =
           replicate 7 (declines 64 8)
-          ++ writes 64 (ask-built 43) (text "n3iwf.5gc.mnc000.mcc000.pub.3gppnetwork.org") (text "n3iwf.5gc.mnc000.mcc000.pub.3gppnetwork.org")
+          ++ writes 64 (Action.AskBuilt 43) (text "n3iwf.5gc.mnc000.mcc000.pub.3gppnetwork.org") (text "n3iwf.5gc.mnc000.mcc000.pub.3gppnetwork.org")
           ∷ [];
     }
     -- a line that does not wait for the country answer has no such test
@@ -175,7 +175,7 @@ ranges =
       calls =
           now (address (4 ∷ zeros 15)) ∷ now (address (5 ∷ zeros 16)) ∷ now (address (4 ∷ zeros 15 ++ 1 ∷ []))
           ∷ now (address (joined addressOctets (replicate 17 (V4 1)))) ∷ now (address (joined addressOctets (replicate 16 (V4 1)))) ∷ [];
-      says = declined 8 ∷ declined 8 ∷ declined 8 ∷ declined 8 ∷ acts (chose (V4 1) 0) ∷ [];
+      says = declined 8 ∷ declined 8 ∷ declined 8 ∷ declined 8 ∷ acts (Action.Chose (V4 1) 0) ∷ [];
     }
     -- NAS has 1 to 2,048 octets and AN-parameters 0 to 1,024, the first reply of a session needs some
     ∷ record {
@@ -185,7 +185,7 @@ ranges =
           ∷ now (reply [] nas 3090) ∷ now (reply (zeros 1024) (zeros 2048) 3090) ∷ [];
       says =
           replicate 4 (declines 3090 8)
-          ++ writes 3090 (send-response 3090) []
+          ++ writes 3090 (Action.SendResponse 3090) []
           ((0x02 ∷ 0x07 ∷ 0x0C ∷ 0x12 ∷ 0xFE ∷ 0x00 ∷ 0x28 ∷ 0xAF ∷ 0x00 ∷ 0x00 ∷ 0x00 ∷ 0x03 ∷ 0x02 ∷ 0x00 ∷ 0x04 ∷ 0x00 ∷ zeros 1024)
           ++ 0x08 ∷ 0x00 ∷ zeros 2048)
           ∷ [];
@@ -204,7 +204,7 @@ ranges =
       calls =
           now (child-made 255 1) ∷ now (child-made 4294967296 1) ∷ now (child-made 256 0) ∷ now (child-made 256 16)
           ∷ now (child-deleted 4294967296) ∷ now (child-made 256 1) ∷ now (child-made 4294967295 15) ∷ [];
-      says = replicate 4 (declined 8) ++ declined 10 ∷ acts nothing ∷ acts nothing ∷ [];
+      says = replicate 4 (declined 8) ++ declined 10 ∷ acts Action.Nothing ∷ acts Action.Nothing ∷ [];
     }
     ∷ []
 

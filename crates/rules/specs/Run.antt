@@ -7,7 +7,8 @@ use Rattle.octets.specs.Refusal.{refusal}
 use Rattle.record.specs.Line.{Line}
 use Rattle.table.specs.Slots.{Slot, Free, Used, put}
 use Rattle.table.specs.Table.{freePair}
-use Rattle.rules.specs.Answer.{Answer, eventRoom, listed, numbersOf, refused}
+use Rattle.rules.specs.Answer.{Answer, eventRoom, numbersOf, refused}
+use Rattle.rules.specs.declared.Action.the-variants as Action
 use Rattle.rules.specs.Call.{Event, Call, opening, closing, listing, timed, pairOf}
 use Rattle.rules.specs.Life.{Outcome, outcome}
 use Rattle.rules.specs.Listing.{listFrom}
@@ -55,7 +56,7 @@ step (opening tenant line) v = record { act = add (pairOf tenant line) fresh; an
 step (closing tenant line) v = record { act = drop (pairOf tenant line); answer = bare }
 step (listing tenant room) v =
     let l = listFrom 0 (v .lines) in
-    record { act = stay; answer = record { refusal = 0; numbers = numbersOf (listed (length l)); part = []; buffer = padded room l } }
+    record { act = stay; answer = record { refusal = 0; numbers = numbersOf (Action.Listed (length l)); part = []; buffer = padded room l } }
 step (timed tenant line time e) v = timedStep tenant line e (lineFound line time v)
 
 -- the table afterwards

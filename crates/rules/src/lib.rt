@@ -1,5 +1,36 @@
-// The rules of document 01, and what is claimed of them.
+// The rules of document 01, what they ask of the daemon, and what is claimed of them.
+use address::Address;
 ghost use Rattle.rules.specs.Claims.{Claims};
+
+// What the daemon has to do.
+pub enum Action {
+    Nothing,
+    // Selection stopped: where, and how many addresses were passed over.
+    Stopped(u64, usize),
+    // Ask for the visited-country name: how many octets of the name buffer it has.
+    AskCountry(usize),
+    // Ask for the gateway name that lies in the text: where it begins, and how many octets it has.
+    AskText(usize, usize),
+    // Ask for the gateway name in the name buffer: how many octets it has.
+    AskBuilt(usize),
+    // An address is chosen, behind so many that were passed over.
+    Chose(Address, usize),
+    SendInit,
+    SendAuthRequest,
+    AskNas,
+    // Hand up the NAS that lies in the packet: where it begins, and how many octets it has.
+    HandUp(usize, usize),
+    // Send so many octets of the reply buffer.
+    SendResponse(usize),
+    SendAuth,
+    Live,
+    // Released: 1 where an EAP session ended.
+    Released(u64),
+    // Hand the error up: 1 where an EAP session ended, and the error's number.
+    ErrorUp(u64, u64),
+    // So many octets of the listing are written.
+    Listed(usize),
+}
 
 // Does nothing; its promise is every claim about the rules.
 pub fn claims()
