@@ -1,8 +1,10 @@
 -- A line as the rules see it.
-use Prim.Native.Nat.{ℕ}
+use Prim.Native.Nat.{ℕ, _≤_}
 use mathlib.Core.List.{List}
 use lib.ListN.{take}
+use Rattle.address.specs.Address.{mostHolds}
 use Rattle.address.specs.declared.Hold.{Hold}
+use Rattle.children.specs.Children.{mostChildren}
 use Rattle.children.specs.declared.Child.{Child}
 use Rattle.phase.specs.declared.Phase.{Phase}
 use Rattle.record.specs.declared.Record.{Record}
@@ -22,3 +24,7 @@ lineOf r = record {
   holds = take (r .«hold_count») (r .holds);
   children = take (r .«child_count») (r .children);
 }
+
+-- the holds and the children of the code's struct lie in its arrays
+abbrev pub InArrays : Record → Type 0
+InArrays r = (r .«hold_count» ≤ mostHolds) × (r .«child_count» ≤ mostChildren)

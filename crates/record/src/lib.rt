@@ -27,7 +27,7 @@ ghost use Rattle.address.specs.Address.{mostHolds};
 ghost use Rattle.children.specs.Children.{mostChildren};
 ghost use Rattle.phase.specs.Phase.{phaseOctets};
 ghost use Rattle.record.specs.Laws.{Laws};
-ghost use Rattle.record.specs.Line.{lineOf};
+ghost use Rattle.record.specs.Line.{lineOf, InArrays};
 ghost use Rattle.record.specs.Octets.{childCountPlace, holdCountPlace, lineFrom, recordLength, recordOctets};
 
 // Where the parts of a record stand: the pair first, then the time, the phase, both counts, the holds and the children.
@@ -60,7 +60,7 @@ pub struct Record {
 pub fn read_record(b: &[u8]) -> Record
     requires { ⌜ (recordLength ≤ length (now b)) × (field (now b) holdCountPlace 1 ≤ mostHolds) × (field (now b) childCountPlace 1 ≤ mostChildren) ⌝ }
     ensures { λ r. ⌜ lineOf r ≡ lineFrom (now (b .entry)) ⌝ }
-    ensures { λ r. ⌜ (r .«hold_count» ≤ mostHolds) × (r .«child_count» ≤ mostChildren) ⌝ }
+    ensures { λ r. ⌜ InArrays r ⌝ }
 {
     let hold_count = get(b, HOLD_COUNT_AT, 1) as usize;
     let child_count = get(b, CHILD_COUNT_AT, 1) as usize;
@@ -111,7 +111,7 @@ fn put_parts(
 
 // Stores a record with its pair's number from 1 on.
 pub fn put_record(b: &mut [u8], pair: u64, r: Record)
-    requires { ⌜ (length (now b) ≡ recordLength) × (r .«hold_count» ≤ mostHolds) × (r .«child_count» ≤ mostChildren) ⌝ }
+    requires { ⌜ (length (now b) ≡ recordLength) × InArrays r ⌝ }
     ensures { λ _. ⌜ now (b .exit) ≡ recordOctets pair (lineOf r) ⌝ }
 {
     let phase = r.phase;

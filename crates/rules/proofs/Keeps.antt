@@ -24,7 +24,8 @@ use Rattle.record.specs.Laws.{lineStorable}
 use Rattle.record.specs.Line.{Line}
 use Rattle.record.specs.Sound.{chosen, lineSound}
 use Rattle.selection.specs.Selection as Selection
-use Rattle.rules.specs.Call.{Event, StartNumbers, start, country, address, begin, init, eap, reply, final, error, congestion, give-up, child-made, child-deleted, ike-delete, eventOctets, lastTime, startNumbersFit}
+use Rattle.rules.specs.Call.{Event, start, country, address, begin, init, eap, reply, final, error, congestion, give-up, child-made, child-deleted, ike-delete, eventOctets, lastTime, startNumbersFit}
+use Rattle.rules.specs.declared.StartNumbers.{StartNumbers}
 use Rattle.rules.specs.Life.{current, finished, goes, keeps, outcome}
 use Rattle.rules.specs.Phases.{factsIn, owed, turnIn, underway}
 use Rattle.rules.specs.Refusals.{hasNoRoom, isAllowed, isChild, isHeldFull, isOutOfRange, isSpiTaken, refusalsOf}

@@ -42,7 +42,8 @@ use Rattle.rules.specs.After as After
 use Rattle.rules.specs.Answer.{Answer, numbersOf, twelve}
 use Rattle.rules.specs.declared.Action.{Action}
 use Rattle.rules.specs.declared.Action.the-variants as Action
-use Rattle.rules.specs.Call.{StartNumbers, Event, start, country, address, begin, init, eap, reply, final, error, congestion, give-up, child-made, child-deleted, ike-delete, timed, factsOf, lastTime}
+use Rattle.rules.specs.Call.{Event, start, country, address, begin, init, eap, reply, final, error, congestion, give-up, child-made, child-deleted, ike-delete, timed, factsOf, lastTime}
+use Rattle.rules.specs.declared.StartNumbers.{StartNumbers}
 use Rattle.rules.specs.Claims.{Timed, lineIn}
 use Rattle.rules.specs.Life.{addressAnswered, congested, countryAnswered, current, decided, ended, finished, gatewayFound, goes, inPhase, keeps, nameAsked, onward, outcome, packetTaken, replied, started, withChildren}
 use Rattle.rules.specs.Phases.{factsIn, lastReply, owed, turnIn, underway}

@@ -39,7 +39,8 @@ use Rattle.record.specs.Sound.{chosen, chosenFree}
 use Rattle.selection.specs.Selection as Selection
 use Rattle.selection.specs.declared.Choice.{Choice}
 use Rattle.selection.specs.declared.Choice.the-variants as Choice
-use Rattle.rules.specs.Call.{StartNumbers, factsOf, startNumbersFit, placeOf, registeredOf}
+use Rattle.rules.specs.Call.{factsOf, startNumbersFit, placeOf, registeredOf}
+use Rattle.rules.specs.declared.StartNumbers.{StartNumbers}
 use Rattle.rules.specs.Life.{addressAnswered, countryAnswered, nameAsked, decided, gatewayFound, goes, inPhase, started}
 use Rattle.rules.specs.Phases.{factsIn}
 use Rattle.rules.proofs.Moves.{moves, rests, room-left}
@@ -109,15 +110,15 @@ given-ranged : (g : StartNumbers) → startNumbersFit g ≡ true → Ranged (fac
 unfolding startNumbersFit factsOf placeOf registeredOf known placeFits registeredFits
 given-ranged g h =
     let mcc : leb (g .mcc) 999 ≡ true = search (and-left, and-right) depth 9 in
-    let first : leb (g .registeredMcc) 999 ≡ true = search (and-left, and-right) depth 9 in
-    let second : leb (g .registeredMnc) 999 ≡ true = search (and-left, and-right) depth 9 in
+    let first : leb (g .«registered_mcc») 999 ≡ true = search (and-left, and-right) depth 9 in
+    let second : leb (g .«registered_mnc») 999 ≡ true = search (and-left, and-right) depth 9 in
     record {
       place-known =
           cond-passes known (eqb (g .place) 1) Home (cond (eqb (g .place) 2) (Abroad (g .mcc)) Unknown) refl
           (cond-passes known (eqb (g .place) 2) (Abroad (g .mcc)) Unknown mcc refl);
       registered-fits =
-          cond-passes registeredFits (eqb (g .registered) 1) (Is (record { mcc = g .registeredMcc; mnc = g .registeredMnc })) None
-          (and-true (leb (g .registeredMcc) 999) (leb (g .registeredMnc) 999) first second) refl;
+          cond-passes registeredFits (eqb (g .registered) 1) (Is (record { mcc = g .«registered_mcc»; mnc = g .«registered_mnc» })) None
+          (and-true (leb (g .«registered_mcc») 999) (leb (g .«registered_mnc») 999) first second) refl;
       version-fits = search (and-left, and-right) depth 9;
     }
 

@@ -26,7 +26,8 @@ use Rattle.selection.proofs.Ends.{stops-exactly}
 use Rattle.table.specs.Slots.{lineAt, pairIn, slotLine, slotsOf}
 use Rattle.table.specs.Table.{isTable}
 use Rattle.rules.specs.Answer.{numbersOf, twelve}
-use Rattle.rules.specs.Call.{StartNumbers, Event, start, country, address, Call, timed, factsOf, lastTime, pairOf, tenantOf}
+use Rattle.rules.specs.Call.{Event, start, country, address, Call, timed, factsOf, lastTime, pairOf, tenantOf}
+use Rattle.rules.specs.declared.StartNumbers.{StartNumbers}
 use Rattle.rules.specs.Claims.{NoRow, Timed, isPastLast, lineIn, onLine, stopSaid}
 use Rattle.rules.specs.Life.{Outcome, addressAnswered, countryAnswered, nameAsked, current, decided, gatewayFound, goes, outcome, started}
 use Rattle.rules.specs.Phases.{factsIn}

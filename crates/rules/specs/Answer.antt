@@ -1,9 +1,11 @@
 -- What a call answers, and the twelve numbers of each action.
-use Prim.Native.Nat.{ℕ}
+use Prim.Native.Nat.{ℕ, _+_, _≤_}
+use mathlib.Core.Bool.{cond}
 use mathlib.Core.List.{List, [], _∷_}
-use Rattle.octets.specs.Part.{zeros}
+use lib.Dec.{eqb}
+use lib.ListN.{length, getD}
+use Rattle.octets.specs.Part.{part, zeros}
 use Rattle.address.specs.Address.{high, low, versionOf}
-use Rattle.address.specs.declared.Address.{Address}
 use Rattle.rules.specs.Call.{Event, start, country, address, begin, init, eap, reply, final, error, congestion, give-up, child-made, child-deleted, ike-delete, Call, opening, closing, listing, timed}
 use Rattle.rules.specs.declared.Action.{Action}
 use Rattle.rules.specs.declared.Action.the-variants as Action
@@ -40,6 +42,18 @@ numbersOf Action.Live = twelve 11 0 0 0 0 0 0 0 0 0 0 0
 numbersOf (Action.Released ended) = twelve 12 0 0 0 0 0 0 0 0 ended 0 0
 numbersOf (Action.ErrorUp ended n) = twelve 13 0 0 0 0 0 0 0 0 ended n 0
 numbersOf (Action.Listed n) = twelve 0 0 0 0 0 0 0 0 0 0 0 n
+
+-- the lent octets in which a part lies: 1 the configuration text, 2 the name buffer, 3 the packet
+unfoldable pub lentIn : ℕ → List ℕ → List ℕ → List ℕ → List ℕ
+lentIn n text name packet = cond (eqb n 1) text (cond (eqb n 2) name (cond (eqb n 3) packet []))
+
+-- the octets of the part that an action's numbers name
+unfoldable pub partNamed : List ℕ → List ℕ → List ℕ → List ℕ → List ℕ
+partNamed numbers text name packet = part (lentIn (getD numbers 3 0) text name packet) (getD numbers 4 0) (getD numbers 5 0)
+
+-- the part that an action's numbers name lies within the lent octets
+abbrev pub PartWithin : List ℕ → List ℕ → List ℕ → List ℕ → Type 0
+PartWithin numbers text name packet = getD numbers 4 0 + getD numbers 5 0 ≤ length (lentIn (getD numbers 3 0) text name packet)
 
 -- how many octets the answer buffer has, none where there is no such buffer
 unfoldable pub eventRoom : Event → ℕ

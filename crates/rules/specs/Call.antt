@@ -11,6 +11,7 @@ use Rattle.network.specs.declared.MaybePlmn.the-variants.{Is, None}
 use Rattle.place.specs.declared.Facts.{Facts}
 use Rattle.place.specs.declared.Place.{Place}
 use Rattle.place.specs.declared.Place.the-variants.{Unknown, Home, Abroad}
+use Rattle.rules.specs.declared.StartNumbers.{StartNumbers}
 
 -- a listing is written to a buffer of at least so many octets
 abbrev pub listingRoom : ℕ
@@ -28,18 +29,9 @@ mostError = 16_383
 abbrev pub lastTime : ℕ
 lastTime = 4_294_967_295
 
--- the numbers of a start: the place and the visited MCC, whether registered and to which PLMN, the local IP version
-pub record StartNumbers : Type 0 where
-  pub place : ℕ
-  pub mcc : ℕ
-  pub registered : ℕ
-  pub registeredMcc : ℕ
-  pub registeredMnc : ℕ
-  pub version : ℕ
-
 -- what happens on an open line, in the order of 'Life of a line'
 pub data Event : Type 0 where
-  -- the configuration text, and the octets of the name buffer
+  -- its numbers, the configuration text, and the octets of the name buffer
   start : StartNumbers → List ℕ → ℕ → Event
   -- whether there is a reply, the networks, the text, and the octets of the name buffer
   country : ℕ → List ℕ → List ℕ → ℕ → Event
@@ -108,8 +100,8 @@ pairOf tenant line = suc (suc lastLine * tenant + line)
 unfoldable pub startNumbersFit : StartNumbers → Bool
 startNumbersFit g =
     leb (g .place) 2 && leb (g .mcc) mostCode && (eqb (g .place) 2 || eqb (g .mcc) 0)
-    && leb (g .registered) 1 && leb (g .registeredMcc) mostCode && leb (g .registeredMnc) mostCode
-    && (eqb (g .registered) 1 || eqb (g .registeredMcc) 0 && eqb (g .registeredMnc) 0)
+    && leb (g .registered) 1 && leb (g .«registered_mcc») mostCode && leb (g .«registered_mnc») mostCode
+    && (eqb (g .registered) 1 || eqb (g .«registered_mcc») 0 && eqb (g .«registered_mnc») 0)
     && isVersion (g .version)
 
 -- the facts that a start's numbers say; a place that is none of the three is refused by 8
@@ -122,6 +114,6 @@ registeredOf registered mcc mnc = cond (eqb registered 1) (Is (record { mcc = mc
 unfoldable pub factsOf : StartNumbers → Facts
 factsOf g = record {
   place = placeOf (g .place) (g .mcc);
-  registered = registeredOf (g .registered) (g .registeredMcc) (g .registeredMnc);
+  registered = registeredOf (g .registered) (g .«registered_mcc») (g .«registered_mnc»);
   version = g .version;
 }

@@ -12,7 +12,8 @@ use Rattle.rules.specs.Run.{bare}
 use Rattle.rules.specs.Answer.{Answer, numbersOf, numberCount}
 use Rattle.rules.specs.declared.Action.{Action}
 use Rattle.rules.specs.declared.Action.the-variants as Action
-use Rattle.rules.specs.Call.{StartNumbers, Event, start, begin, init, eap, reply, final, congestion, Call, opening, timed}
+use Rattle.rules.specs.Call.{Event, start, begin, init, eap, reply, final, congestion, Call, opening, timed}
+use Rattle.rules.specs.declared.StartNumbers.{StartNumbers}
 
 -- a record of a text as document 01 shows it: tabs as bars, ended by one newline
 unfoldable pub tabbed : ℕ → ℕ
@@ -55,8 +56,8 @@ startNumbers place mcc registered rmcc rmnc version = record {
   place = place;
   mcc = mcc;
   registered = registered;
-  registeredMcc = rmcc;
-  registeredMnc = rmnc;
+  «registered_mcc» = rmcc;
+  «registered_mnc» = rmnc;
   version = version;
 }
 

@@ -12,7 +12,8 @@ use Rattle.text.specs.Text.{text}
 use Rattle.rules.specs.Answer.{Answer}
 use Rattle.rules.specs.declared.Action.{Action}
 use Rattle.rules.specs.declared.Action.the-variants as Action
-use Rattle.rules.specs.Call.{StartNumbers, start, country, address, Call}
+use Rattle.rules.specs.Call.{start, country, address, Call}
+use Rattle.rules.specs.declared.StartNumbers.{StartNumbers}
 use Rattle.rules.specs.Cases.{abroad, abroad6, acts, atHome, atHome6, congest, startNumbers, named, network, node, node6, now, plain, registeredTo, roaming, shown, toIdle, toName, writes}
 use Rattle.rules.specs.Computed.{Example, got, said}
 

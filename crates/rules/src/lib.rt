@@ -2,6 +2,16 @@
 use address::Address;
 ghost use Rattle.rules.specs.Claims.{Claims};
 
+// The numbers of a start: the place and the visited MCC, whether registered and to which PLMN, the local IP version.
+pub struct StartNumbers {
+    pub place: u64,
+    pub mcc: u64,
+    pub registered: u64,
+    pub registered_mcc: u64,
+    pub registered_mnc: u64,
+    pub version: u64,
+}
+
 // What the daemon has to do.
 pub enum Action {
     Nothing,

@@ -14,9 +14,7 @@ ghost use Prim.Native.Nat.{_+_, _*_, _≤_, _<_};
 ghost use lib.ListN.{length};
 ghost use Rattle.octets.specs.Part.{zeros, Wrote};
 ghost use Rattle.octets.specs.Search.{least};
-ghost use Rattle.address.specs.Address.{mostHolds};
-ghost use Rattle.children.specs.Children.{mostChildren};
-ghost use Rattle.record.specs.Line.{lineOf};
+ghost use Rattle.record.specs.Line.{lineOf, InArrays};
 ghost use Rattle.record.specs.Sound.{isRecord};
 ghost use Rattle.record.specs.Octets.{lineFrom, recordLength, recordOctets};
 ghost use Rattle.table.specs.Laws.{Laws};
@@ -105,14 +103,14 @@ pub fn is_sound(table: &[u8]) -> bool
 pub fn read_slot(table: &[u8], i: usize) -> Record
     requires { ⌜ (recordLength * i + recordLength ≤ length (now table)) × (isRecord (slot (now table) i) ≡ true) ⌝ }
     ensures { λ r. ⌜ lineOf r ≡ lineFrom (slot (now (table .entry)) i) ⌝ }
-    ensures { λ r. ⌜ (r .«hold_count» ≤ mostHolds) × (r .«child_count» ≤ mostChildren) ⌝ }
+    ensures { λ r. ⌜ InArrays r ⌝ }
 {
     read_record(part(table, RECORD * i, RECORD))
 }
 
 // Stores a record.
 pub fn store(table: &mut [u8], i: usize, pair: u64, r: Record)
-    requires { ⌜ (recordLength * i + recordLength ≤ length (now table)) × (r .«hold_count» ≤ mostHolds) × (r .«child_count» ≤ mostChildren) ⌝ }
+    requires { ⌜ (recordLength * i + recordLength ≤ length (now table)) × InArrays r ⌝ }
     ensures { λ _. ⌜ Wrote (now (table .entry)) (recordLength * i) (recordOctets pair (lineOf r)) (now (table .exit)) ⌝ }
 {
     let at = RECORD * i;

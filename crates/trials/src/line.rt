@@ -17,6 +17,7 @@ use place::Facts;
 use place::Place;
 use record::Record;
 ghost use Prim.Native.Nat.{_≤_};
+ghost use Rattle.record.specs.Line.{InArrays};
 
 // Writes a word and a number.
 fn put_named(word: &[u8], x: u64) {
@@ -126,7 +127,7 @@ fn put_children(list: [Child; CHILDREN], n: usize)
 
 // Writes a line.
 pub(crate) fn put_line(r: Record)
-    requires { ⌜ (r .«hold_count» ≤ 8) × (r .«child_count» ≤ 8) ⌝ }
+    requires { ⌜ InArrays r ⌝ }
 {
     let phase = r.phase;
     let holds = r.holds;
