@@ -15,7 +15,7 @@ ghost use mathlib.Core.Path.{_≡_};
 ghost use Prim.Native.Nat.{_+_, _*_, _≤_};
 ghost use lib.ListN.{length, take};
 ghost use Rattle.octets.specs.Part.{Wrote};
-ghost use Rattle.octets.specs.Row.{joined};
+ghost use Rattle.octets.specs.Row.{joined, only};
 ghost use Rattle.octets.specs.Search.{allOf};
 ghost use Rattle.address.specs.Address.{heldAddresses, mostHolds};
 ghost use Rattle.holds.specs.Holds.{different, endAfter, endNumber, endOf, endsAfter, holdFrom, holdLength, holdOctets, holdsFrom, holdsRoom, holdsWritten};
@@ -159,6 +159,33 @@ pub fn all_end_after(list: [Hold; HOLDS], n: usize, time: u64) -> bool
         i += 1;
     }
     true
+}
+
+// The holds of a line: those below the count.
+pub struct Standing {
+    pub list: [Hold; HOLDS],
+    pub count: usize,
+}
+
+// Those of the first n holds that end after a time, in their order.
+pub fn in_force(list: [Hold; HOLDS], n: usize, time: u64) -> Standing
+    requires { ⌜ n ≤ mostHolds ⌝ }
+    ensures { λ r. ⌜ take (r .count) (r .list) ≡ only (endsAfter time) (take n list) ⌝ }
+    ensures { λ r. ⌜ r .count ≤ n ⌝ }
+{
+    let mut kept = list;
+    let mut count = 0;
+    let mut i = 0;
+    while i < n {
+        let hold = list[i];
+        let end = hold.end;
+        if ends_after(end, time) {
+            kept[count] = hold;
+            count += 1;
+        }
+        i += 1;
+    }
+    Standing { list: kept, count }
 }
 
 // Does nothing; its promise is that writing and reading undo each other.

@@ -1,11 +1,13 @@
 -- The laws of the elements of a list that pass a test, and of one element more at its end.
-use Prim.Native.Nat.{suc, _≤_}
+use Prim.Native.Nat.{ℕ, suc, _+_, _≤_, _<_}
 use mathlib.Core.Bool.{Bool, true, false, not, _&&_, _||_, false≢true}
-use mathlib.Core.List.{List, [], _∷_, _++_, map}
-use mathlib.Core.Path.{_≡_, refl, ap, ap₂, _∙_}
+use mathlib.Core.List.{List, [], _∷_, _++_, append-nil, map}
+use mathlib.Core.Path.{_≡_, refl, sym, ap, ap₂, _∙_, subst}
 use native.Mathlib.Nat.{le-refl, le-suc}
+use native.Mathlib.Numerals.{add-one}
 use native.Mathlib.Omega.{arith}
-use lib.ListN.{length}
+use lib.ListN.{length, getD, set, take, length-set}
+use lib.Seq.{take-suc, take-suc-set}
 use borrow.Author.Tests.{not-true}
 use Rattle.octets.specs.Row.{keep, only}
 use Rattle.octets.specs.Search.{allOf, anyOf, distinct}
@@ -33,6 +35,11 @@ module _ {A : Type 0} where
   unfolding keep
   keep-length true x xs = le-refl (suc (length xs))
   keep-length false x xs = le-suc (length xs)
+
+  keep-append : (t : Bool) (x : A) (l m : List A) → keep t x (l ++ m) ≡ keep t x l ++ m
+  unfolding keep
+  keep-append true x l m = refl
+  keep-append false x l m = refl
 
   -- what is left of a list
   module _ (p : A → Bool) where
@@ -67,6 +74,15 @@ module _ {A : Type 0} where
     unfolding only
     only-length [] = le-refl 0
     only-length (x ∷ l) = omega (arith, keep-length (p x) x (only p l), only-length l)
+
+    -- one element more at the end
+    only-last : (l : List A) (y : A) → only p (l ++ y ∷ []) ≡ only p l ++ keep (p y) y []
+    unfolding only
+    only-last [] y = refl
+    only-last (x ∷ l) y = ap (keep (p x) x) (only-last l y) ∙ keep-append (p x) x (only p l) (keep (p y) y [])
+
+    only-next : (l : List A) (i : ℕ) (d : A) → i < length l → only p (take (i + 1) l) ≡ only p (take i l) ++ keep (p (getD l i d)) (getD l i d) []
+    only-next l i d h = ap (λ (k : ℕ). only p (take k l)) (add-one i) ∙ ap (only p) (take-suc l i d h) ∙ only-last (take i l) (getD l i d)
 
   -- one element more at the end
   pub all-last : (q : A → Bool) (l : List A) (y : A) → allOf q l ≡ true → q y ≡ true → allOf q (l ++ y ∷ []) ≡ true
@@ -118,3 +134,42 @@ module _ {A B : Type 0} (f : A → B) where
   unfolding distinct
   distinct-map alike [] = refl
   distinct-map alike (x ∷ l) = ap₂ (λ (s t : Bool). not s && t) (any-map (alike (f x)) l) (distinct-map alike l)
+
+-- those of the first i elements of a list that pass stand in their order at the front of another list, which is as long
+pub record Kept {A : Type 0} (p : A → Bool) (l : List A) (i : ℕ) (kept : List A) (count : ℕ) : Type 0 where
+  pub few : count ≤ i
+  pub long : length kept ≡ length l
+  pub front : take count kept ≡ only p (take i l)
+
+module _ {A : Type 0} {p : A → Bool} {l : List A} where
+  pub kept-none : Kept p l 0 l 0
+  unfolding only
+  kept-none = record { few = le-refl 0; long = refl; front = refl }
+
+  -- all n are passed
+  pub kept-whole : {i n count : ℕ} {kept : List A} → i ≡ n → Kept p l i kept count → (take count kept ≡ only p (take n l)) × (count ≤ n)
+  kept-whole {i} {n} {count} {kept} e k = (subst (λ (j : ℕ). take count kept ≡ only p (take j l)) e (k .front), omega (arith, k .few))
+
+  module _ {i count : ℕ} {kept : List A} (d : A) (k : Kept p l i kept count) (inside : i < length l) where
+    -- the next element passes and is stored behind them
+    pub kept-more : {count′ : ℕ} {kept′ : List A} → p (getD l i d) ≡ true → kept′ ≡ set kept count (getD l i d) → count′ ≡ count + 1 → Kept p l (i + 1) kept′ count′
+    unfolding keep
+    kept-more {count′} {kept′} passes stored more =
+        let x = getD l i d in
+        let room : count < length kept = omega (arith, k .few, k .long) in
+        record {
+          few = omega (arith, k .few);
+          long = ap length stored ∙ length-set kept count x ∙ k .long;
+          front = ap₂ take (more ∙ add-one count) stored ∙ take-suc-set kept count x room ∙ ap₂ (λ (m : List A) (t : Bool). m ++ keep t x []) (k .front) (sym passes) ∙ sym (only-next p l i d inside);
+        }
+
+    -- the next element fails
+    pub kept-same : {count′ : ℕ} {kept′ : List A} → p (getD l i d) ≡ false → kept′ ≡ kept → count′ ≡ count → Kept p l (i + 1) kept′ count′
+    unfolding keep
+    kept-same {count′} {kept′} fails stored same =
+        let x = getD l i d in
+        record {
+          few = omega (arith, k .few);
+          long = ap length stored ∙ k .long;
+          front = ap₂ take same stored ∙ k .front ∙ sym (append-nil (only p (take i l))) ∙ ap (λ (t : Bool). only p (take i l) ++ keep t x []) (sym fails) ∙ sym (only-next p l i d inside);
+        }
