@@ -1,6 +1,6 @@
 -- A child association in octets: its SPI and its session.
 use Prim.Native.Nat.{ℕ, _+_, _-_, _*_}
-use mathlib.Core.Bool.{Bool, _&&_}
+use mathlib.Core.Bool.{Bool, not, _&&_}
 use mathlib.Core.List.{List, _++_}
 use lib.Dec.{leb, eqb}
 use Rattle.octets.specs.Digits.{be, field}
@@ -46,6 +46,10 @@ isSpi spi c = eqb spi (c .spi)
 
 unfoldable pub hasSpi : ℕ → List Child → Bool
 hasSpi spi cs = anyOf (isSpi spi) cs
+
+-- a child of another SPI
+unfoldable pub isOther : ℕ → Child → Bool
+isOther spi c = not (isSpi spi c)
 
 -- children with different SPIs
 unfoldable pub sameSpi : Child → Child → Bool

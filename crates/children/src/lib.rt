@@ -6,9 +6,9 @@ ghost use mathlib.Core.Path.{_≡_};
 ghost use Prim.Native.Nat.{_+_, _≤_};
 ghost use lib.ListN.{drop, length, take};
 ghost use Rattle.octets.specs.Part.{Wrote};
-ghost use Rattle.octets.specs.Row.{joined};
+ghost use Rattle.octets.specs.Row.{joined, only};
 ghost use Rattle.octets.specs.Search.{allOf};
-ghost use Rattle.children.specs.Children.{childFits, childFrom, childLength, childOctets, childrenFrom, childrenRoom, childrenWritten, hasSpi, mostChildren, spisDiffer};
+ghost use Rattle.children.specs.Children.{childFits, childFrom, childLength, childOctets, childrenFrom, childrenRoom, childrenWritten, hasSpi, isOther, mostChildren, spisDiffer};
 ghost use Rattle.children.specs.Laws.{Laws};
 
 // A child association.
@@ -143,6 +143,32 @@ pub fn all_fit(list: [Child; CHILDREN], n: usize) -> bool
         i += 1;
     }
     true
+}
+
+// The children of a line: those below the count.
+pub struct Children {
+    pub list: [Child; CHILDREN],
+    pub count: usize,
+}
+
+// The first n children without those of an SPI, in their order.
+pub fn without(list: [Child; CHILDREN], n: usize, spi: u64) -> Children
+    requires { ⌜ n ≤ mostChildren ⌝ }
+    ensures { λ r. ⌜ take (r .count) (r .list) ≡ only (isOther spi) (take n list) ⌝ }
+    ensures { λ r. ⌜ r .count ≤ n ⌝ }
+{
+    let mut kept = list;
+    let mut count = 0;
+    let mut i = 0;
+    while i < n {
+        let child = list[i];
+        if spi != child.spi {
+            kept[count] = child;
+            count += 1;
+        }
+        i += 1;
+    }
+    Children { list: kept, count }
 }
 
 // Does nothing; its promise is that writing and reading undo each other.

@@ -1,4 +1,4 @@
--- The laws of the elements of a list that pass a test, and of one element more at its end.
+-- The laws of the elements of a list that pass a test, of one element more at its end, and of a loop that keeps those that pass.
 use Prim.Native.Nat.{ℕ, suc, _+_, _≤_, _<_}
 use mathlib.Core.Bool.{Bool, true, false, not, _&&_, _||_, false≢true}
 use mathlib.Core.List.{List, [], _∷_, _++_, append-nil, map}
@@ -142,34 +142,38 @@ pub record Kept {A : Type 0} (p : A → Bool) (l : List A) (i : ℕ) (kept : Lis
   pub front : take count kept ≡ only p (take i l)
 
 module _ {A : Type 0} {p : A → Bool} {l : List A} where
+  -- none is passed yet
   pub kept-none : Kept p l 0 l 0
   unfolding only
   kept-none = record { few = le-refl 0; long = refl; front = refl }
 
   -- all n are passed
   pub kept-whole : {i n count : ℕ} {kept : List A} → i ≡ n → Kept p l i kept count → (take count kept ≡ only p (take n l)) × (count ≤ n)
-  kept-whole {i} {n} {count} {kept} e k = (subst (λ (j : ℕ). take count kept ≡ only p (take j l)) e (k .front), omega (arith, k .few))
+  kept-whole {i} {n} {count} {kept} e k = (subst (λ (j : ℕ). take count kept ≡ only p (take j l)) e (k .front), omega arith)
 
   module _ {i count : ℕ} {kept : List A} (d : A) (k : Kept p l i kept count) (inside : i < length l) where
     -- the next element passes and is stored behind them
-    pub kept-more : {count′ : ℕ} {kept′ : List A} → p (getD l i d) ≡ true → kept′ ≡ set kept count (getD l i d) → count′ ≡ count + 1 → Kept p l (i + 1) kept′ count′
+    pub kept-more : {count′ : ℕ} {kept′ : List A} → p (getD l i d) ≡ true → kept′ ≡ set kept count (getD l i d) → count′ ≡ count + 1
+        → Kept p l (i + 1) kept′ count′
     unfolding keep
-    kept-more {count′} {kept′} passes stored more =
+    kept-more passes stored more =
         let x = getD l i d in
-        let room : count < length kept = omega (arith, k .few, k .long) in
+        let room : count < length kept = omega arith in
         record {
-          few = omega (arith, k .few);
+          few = omega arith;
           long = ap length stored ∙ length-set kept count x ∙ k .long;
-          front = ap₂ take (more ∙ add-one count) stored ∙ take-suc-set kept count x room ∙ ap₂ (λ (m : List A) (t : Bool). m ++ keep t x []) (k .front) (sym passes) ∙ sym (only-next p l i d inside);
+          front = ap₂ take (more ∙ add-one count) stored ∙ take-suc-set kept count x room
+              ∙ ap₂ (λ (m : List A) (t : Bool). m ++ keep t x []) (k .front) (sym passes) ∙ sym (only-next p l i d inside);
         }
 
     -- the next element fails
     pub kept-same : {count′ : ℕ} {kept′ : List A} → p (getD l i d) ≡ false → kept′ ≡ kept → count′ ≡ count → Kept p l (i + 1) kept′ count′
     unfolding keep
-    kept-same {count′} {kept′} fails stored same =
+    kept-same fails stored same =
         let x = getD l i d in
         record {
-          few = omega (arith, k .few);
+          few = omega arith;
           long = ap length stored ∙ k .long;
-          front = ap₂ take same stored ∙ k .front ∙ sym (append-nil (only p (take i l))) ∙ ap (λ (t : Bool). only p (take i l) ++ keep t x []) (sym fails) ∙ sym (only-next p l i d inside);
+          front = ap₂ take same stored ∙ k .front ∙ sym (append-nil (only p (take i l)))
+              ∙ ap (λ (t : Bool). only p (take i l) ++ keep t x []) (sym fails) ∙ sym (only-next p l i d inside);
         }

@@ -11,7 +11,7 @@ use Rattle.octets.specs.Row.{only}
 use Rattle.octets.specs.Search.{allOf, distinct}
 use Rattle.octets.proofs.Search.{and-left, and-right, eqb-turned, smaller}
 use Rattle.octets.proofs.Sublists.{all-last, distinct-last, only-all, only-distinct, only-length}
-use Rattle.children.specs.Children.{childFits, hasSpi, isSpi, sameSpi, spisDiffer}
+use Rattle.children.specs.Children.{childFits, hasSpi, isOther, isSpi, sameSpi, spisDiffer}
 use Rattle.children.specs.Laws.{childStorable}
 use Rattle.children.specs.declared.Child.{Child}
 use Rattle.phase.specs.Laws.{phaseStorable}
@@ -22,7 +22,7 @@ use Rattle.phase.specs.declared.Phase.{Phase}
 use Rattle.phase.specs.declared.Phase.the-variants.{Idle}
 use Rattle.record.specs.Line.{Line}
 use Rattle.record.specs.Sound.{chosen, chosenFree}
-use Rattle.rules.specs.Life.{inPhase, isOther, withChildren}
+use Rattle.rules.specs.Life.{inPhase, withChildren}
 use Rattle.rules.specs.Refusals.{isChild}
 use Rattle.rules.proofs.Valid.{ChildrenValid, Valid}
 

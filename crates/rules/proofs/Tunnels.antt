@@ -11,14 +11,14 @@ use borrow.Author.Tests.{eqb-true, leb-true, not-true}
 use Rattle.octets.specs.Row.{keep, only}
 use Rattle.octets.specs.Search.{anyOf, distinct}
 use Rattle.octets.proofs.Search.{and-left, and-right, or-left, or-other, or-right}
-use Rattle.children.specs.Children.{hasSpi, isSpi, sameSpi, spisDiffer}
+use Rattle.children.specs.Children.{hasSpi, isOther, isSpi, sameSpi, spisDiffer}
 use Rattle.children.specs.declared.Child.{Child}
 use Rattle.phase.specs.Stage.{isIn}
 use Rattle.phase.specs.Stage as Stage
 use Rattle.record.specs.Line.{Line}
 use Rattle.rules.specs.Call.{child-made, child-deleted, timed, pairOf}
 use Rattle.rules.specs.Claims.{Good, Timed, lineIn}
-use Rattle.rules.specs.Life.{current, isOther, outcome, withChildren}
+use Rattle.rules.specs.Life.{current, outcome, withChildren}
 use Rattle.rules.specs.Refusals.{isAllowed}
 use Rattle.rules.specs.Run.{run}
 use Rattle.rules.proofs.Accepted.{found-storable, found-sound}

@@ -11,6 +11,7 @@ use Rattle.octets.specs.Row.{only}
 use Rattle.address.specs.declared.Address.{Address}
 use Rattle.address.specs.declared.End.the-variants.{At, Never}
 use Rattle.address.specs.declared.Hold.{Hold}
+use Rattle.children.specs.Children.{isOther}
 use Rattle.children.specs.declared.Child.{Child}
 use Rattle.eap.specs.Packet.{readPacket}
 use Rattle.eap.specs.declared.Packet.the-variants.{Start, NasRequest, Success}
@@ -32,7 +33,6 @@ use Rattle.rules.specs.declared.Action.{Action}
 use Rattle.rules.specs.declared.Action.the-variants as Action
 use Rattle.rules.specs.Call.{Event, start, country, address, begin, init, eap, reply, final, error, congestion, give-up, child-made, child-deleted, ike-delete, Call, opening, closing, listing, timed, factsOf, pairOf}
 use Rattle.rules.specs.declared.StartNumbers.{StartNumbers}
-use Rattle.rules.specs.Life.{isOther}
 use Rattle.rules.specs.Phases.{lastReply, turnIn}
 
 -- opening takes a free record, closing and events change that of their pair, a listing none

@@ -12,6 +12,7 @@ use Rattle.octets.specs.Refusal.{Applies}
 use Rattle.octets.specs.Row.{only, row}
 use Rattle.octets.specs.Search.{allOf}
 use Rattle.address.specs.Address.{heldAddresses}
+use Rattle.children.specs.Children.{isOther}
 use Rattle.config.specs.Settings.{Settings, configOf}
 use Rattle.lists.specs.Lists.{addressesIn, networksIn}
 use Rattle.phase.specs.Stage.{isIn}
@@ -34,7 +35,7 @@ use Rattle.rules.specs.Computed as Computed
 use Rattle.rules.specs.FormExamples as FormExamples
 use Rattle.rules.specs.Histories.{answersTo, isOctets, remaining, tableAfter}
 use Rattle.rules.specs.HoldExamples as HoldExamples
-use Rattle.rules.specs.Life.{current, isOther, outcome, withChildren}
+use Rattle.rules.specs.Life.{current, outcome, withChildren}
 use Rattle.rules.specs.LayoutExamples as LayoutExamples
 use Rattle.rules.specs.LifeExamples as LifeExamples
 use Rattle.rules.specs.Listing.{listFrom}

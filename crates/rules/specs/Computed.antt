@@ -96,7 +96,7 @@ unfolding empty slotsOn
     Selection.countryReply
     Query.built Query.asked
     Holds.endAfter Holds.endsAfter
-    Children.isSpi Children.hasSpi Children.childFits ChildLaws.childStorable
+    Children.isSpi Children.isOther Children.hasSpi Children.childFits ChildLaws.childStorable
     Sound.chosen
     TableSlots.pairIn TableSlots.isOf TableSlots.isOpen TableSlots.slotLine TableSlots.lineAt TableSlots.replaced
     RulesCall.tenantOf RulesCall.pairOf RulesCall.startNumbersFit RulesCall.placeOf RulesCall.registeredOf RulesCall.factsOf
@@ -112,8 +112,7 @@ unfolding empty slotsOn
     RulesRefusals.refusalsOf RulesRefusals.eventRefusals RulesRefusals.refusals
     RulesLife.current RulesLife.inPhase RulesLife.goes RulesLife.onward RulesLife.keeps RulesLife.gatewayFound RulesLife.nameAsked
     RulesLife.decided RulesLife.started RulesLife.countryAnswered RulesLife.addressAnswered RulesLife.packetTaken RulesLife.replied RulesLife.finished
-    RulesLife.ended RulesLife.timerHold RulesLife.chosenHold RulesLife.congested RulesLife.withChildren RulesLife.isOther
-    RulesLife.outcome
+    RulesLife.ended RulesLife.timerHold RulesLife.chosenHold RulesLife.congested RulesLife.withChildren RulesLife.outcome
     RulesListing.tab RulesListing.newline RulesListing.word RulesListing.addressText RulesListing.childText RulesListing.lineText RulesListing.listFrom
     RulesRun.bare RulesRun.answerOf RulesRun.timedStep RulesRun.step
     RulesOnSlots.appliedOn RulesOnSlots.settledOn RulesOnSlots.runOn RulesOnSlots.answersOn

@@ -1,6 +1,6 @@
 -- What an accepted event does to its line (document 01, 'Life of a line', the column 'After and action').
 use Prim.Native.Nat.{ℕ, _+_}
-use mathlib.Core.Bool.{Bool, true, false, cond, not}
+use mathlib.Core.Bool.{Bool, true, false, cond}
 use mathlib.Core.List.{List, [], _∷_, _++_}
 use mathlib.Core.Option.{Option, none, some}
 use lib.Dec.{eqb}
@@ -10,7 +10,7 @@ use Rattle.address.specs.Address.{heldAddresses}
 use Rattle.address.specs.declared.Address.{Address}
 use Rattle.address.specs.declared.End.the-variants.{At, Never}
 use Rattle.address.specs.declared.Hold.{Hold}
-use Rattle.children.specs.Children.{isSpi}
+use Rattle.children.specs.Children.{isOther}
 use Rattle.children.specs.declared.Child.{Child}
 use Rattle.config.specs.Settings.{Settings, configOf}
 use Rattle.eap.specs.Packet.{nasOf, readPacket}
@@ -178,9 +178,6 @@ congested x t = record {
 -- the same line with other children
 unfoldable pub withChildren : Line → List Child → Line
 withChildren x cs = record { time = x .time; phase = x .phase; holds = x .holds; children = cs }
-
-unfoldable pub isOther : ℕ → Child → Bool
-isOther spi c = not (isSpi spi c)
 
 -- one clause for each row of the table; the line is the one that the call finds, its time stored and without its ended holds
 unfoldable pub outcome : Event → Line → Outcome

@@ -52,7 +52,8 @@ loop-again c =
     let inside : at-loop .i < length (a .t1) = search needs in
     let tested = sym (c .before .ends-after .ensures) in (
       search needs,
-      ⊎-elim (λ w. kept-more nothing (at-loop .inv .1) inside (tested ∙ w .0 .taken) (w .1) (w .2)) (λ w. kept-same nothing (at-loop .inv .1) inside (tested ∙ w .0 .left) (w .1) (w .2)) (c .if1 .came),
+      ⊎-elim (λ w. kept-more nothing (at-loop .inv .1) inside (tested ∙ w .0 .taken) (w .1) (w .2))
+          (λ w. kept-same nothing (at-loop .inv .1) inside (tested ∙ w .0 .left) (w .1) (w .2)) (c .if1 .came),
     )
 
 returns : tie.Need-returns Inv-loop μ-loop
