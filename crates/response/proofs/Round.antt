@@ -22,7 +22,7 @@ use Rattle.response.specs.Response.{header, block, response, writeRefusa
 use Rattle.eap.specs.declared.Packet.the-variants.{NasResponse}
 use Rattle.eap.proofs.Blocks.{within, nas-whole, parameters-are}
 use Rattle.eap.proofs.Headers.{by-vendor-type, nas-response}
-use Rattle.response.proofs.Writing.{Accepted, length-response, by-parameters}
+use Rattle.response.proofs.Writing.{Accepted, length-response, by-lent, by-parameters}
 use Rattle.eap.proofs.Reading.{Header, header-facts, nas-facts, parameters-facts, response-read}
 
 -- a response, field by field
@@ -44,7 +44,7 @@ module _ (i : ℕ) (p n : List ℕ) (room : ℕ) (a : Accepted i p n room) where
   length-is : lengthField P ≡ length P
   unfolding response header block be digits lengthField field part number numberFrom
   length-is =
-      number-digits 256 2 (18 + length p + length n) (omega (arith, a .parameters-short, a .nas-short)) ∙ sym size
+      number-digits 256 2 (18 + length p + length n) (omega (arith, a .fits .parameters-short, a .fits .nas-short)) ∙ sym size
 
   message-is : message P ≡ 2
   unfolding response header block be digits message field part number numberFrom
@@ -56,7 +56,7 @@ module _ (i : ℕ) (p n : List ℕ) (room : ℕ) (a : Accepted i p n room) where
 
   parameters-length : field P 14 2 ≡ length p
   unfolding response header block be digits field part number numberFrom
-  parameters-length = number-digits 256 2 (length p) (omega (arith, a .parameters-short))
+  parameters-length = number-digits 256 2 (length p) (omega (arith, a .fits .parameters-short))
 
   behind-header : drop 16 P ≡ p ++ block n
   unfolding response header block be digits
@@ -72,7 +72,7 @@ module _ (i : ℕ) (p n : List ℕ) (room : ℕ) (a : Accepted i p n room) where
   nas-length-is : field P (16 + length p) 2 ≡ length n
   unfolding field part number numberFrom block be digits
   nas-length-is =
-      ap (λ (l : List ℕ). number 256 (take 2 l)) behind-parameters ∙ number-digits 256 2 (length n) (omega (arith, a .nas-short))
+      ap (λ (l : List ℕ). number 256 (take 2 l)) behind-parameters ∙ number-digits 256 2 (length n) (omega (arith, a .fits .nas-short))
 
   nas-is-n : part P (18 + length p) (length n) ≡ n
   unfolding part block be digits
@@ -87,13 +87,13 @@ module _ (i : ℕ) (p n : List ℕ) (room : ℕ) (a : Accepted i p n room) where
 
   parameters-pass : isParameters P 14 ≡ true
   parameters-pass =
-      parameters-are P 14 (within P 14 (omega (arith, size)) (omega (arith, size, parameters-length))) (omega (arith, parameters-length, a .parameters-short))
+      parameters-are P 14 (within P 14 (omega (arith, size)) (omega (arith, size, parameters-length))) (omega (arith, parameters-length, a .fits .parameters-short))
       ∙ ap wellFormed (ap (part P 16) parameters-length ∙ parameters-are-p) ∙ a .ends
 
   nas-passes : isNas P (16 + length p) ≡ true
   nas-passes =
       nas-whole P (16 + length p) (within P (16 + length p) (omega (arith, size)) (omega (arith, size, nas-length-is)))
-      (omega (arith, nas-length-is, a .nas-some)) (omega (arith, nas-length-is, a .nas-short))
+      (omega (arith, nas-length-is, a .fits .nas-some)) (omega (arith, nas-length-is, a .fits .nas-short))
 
   is-read : readPacket P ≡ NasResponse i 16 (length p) (18 + length p) (length n)
   unfolding responseOf
@@ -138,8 +138,9 @@ module _ (l : List ℕ) (octets : allOf (below 256) l ≡ true) (r : isNasRespon
   not-refused : writeRefusal (identifier l) (part l 16 m) (part l (nasPlace l + 2) n) 3090 ≡ 0
   unfolding identifier
   not-refused =
-      by-parameters (identifier l) (part l 16 m) (part l (nasPlace l + 2) n) 3090 (omega arith)
-      (omega (arith, field-below l octets 1 1 (omega (arith, h .enough)))) (omega (arith, parameters-size, parameters .1))
+      by-lent (identifier l) (part l 16 m) (part l (nasPlace l + 2) n) 3090 (omega arith)
+      (omega (arith, field-below l octets 1 1 (omega (arith, h .enough))))
+      ∙ by-parameters (part l 16 m) (part l (nasPlace l + 2) n) (omega (arith, parameters-size, parameters .1))
       (omega (arith, nas-size, nas .1)) (omega (arith, nas-size, nas .2))
       ∙ ap (λ (t : Bool). cond (not t) 9 0) (parameters .2)
 

@@ -9,23 +9,17 @@ use parameters::well_formed;
 ghost use mathlib.Core.Path.{_≡_};
 ghost use Prim.Native.Nat.{_+_, _≤_, _<_};
 ghost use lib.ListN.{length};
-ghost use Rattle.octets.specs.Part.{Wrote};
+ghost use Rattle.octets.specs.Part.{Wrote, padded};
 ghost use Rattle.response.specs.Laws.{Laws};
-ghost use Rattle.response.specs.Response.{block, header, writeRefusal, written};
+ghost use Rattle.response.specs.Response.{block, header, lentRefusal, response, writeRefusal, written};
 
 // The smallest buffer that a response is written to.
 pub const REPLY_ROOM: usize = 3090;
 
-// The refusal number for what is lent, 0 where there is none.
-fn refusal(identifier: u64, parameters: &[u8], nas: &[u8], room: usize) -> u64
-    ensures { λ r. ⌜ r ≡ writeRefusal identifier (now (parameters .entry)) (now (nas .entry)) room ⌝ }
+// The refusal number for lent AN-parameters and NAS, 0 where there is none.
+pub fn lent_refusal(parameters: &[u8], nas: &[u8]) -> u64
+    ensures { λ r. ⌜ r ≡ lentRefusal (now (parameters .entry)) (now (nas .entry)) ⌝ }
 {
-    if room < REPLY_ROOM {
-        return 3;
-    }
-    if MOST_OCTET < identifier {
-        return 8;
-    }
     if MOST_PARAMETERS < parameters.len() {
         return 8;
     }
@@ -39,6 +33,19 @@ fn refusal(identifier: u64, parameters: &[u8], nas: &[u8], room: usize) -> u64
         return 9;
     }
     0
+}
+
+// The refusal number for what is lent with an identifier and a buffer, 0 where there is none.
+fn refusal(identifier: u64, parameters: &[u8], nas: &[u8], room: usize) -> u64
+    ensures { λ r. ⌜ r ≡ writeRefusal identifier (now (parameters .entry)) (now (nas .entry)) room ⌝ }
+{
+    if room < REPLY_ROOM {
+        return 3;
+    }
+    if MOST_OCTET < identifier {
+        return 8;
+    }
+    lent_refusal(parameters, nas)
 }
 
 // Stores the header of a NAS response.
@@ -65,21 +72,32 @@ fn put_block(packet: &mut [u8], at: usize, octets: &[u8])
     copy(octets, packet, at + 2);
 }
 
-// Writes a NAS response and zeros after it, or zeros alone and the number of the refusal.
-pub fn write_response(identifier: u64, parameters: &[u8], nas: &[u8], packet: &mut [u8]) -> u64
-    ensures refused { λ r. ⌜ r ≡ writeRefusal identifier (now (parameters .entry)) (now (nas .entry)) (length (now (packet .entry))) ⌝ }
-    ensures buffer { λ _. ⌜ now (packet .exit) ≡ written identifier (now (parameters .entry)) (now (nas .entry)) (length (now (packet .entry))) ⌝ }
+// Writes a NAS response and zeros after it.
+pub fn put_response(identifier: u64, parameters: &[u8], nas: &[u8], packet: &mut [u8]) -> usize
+    requires { ⌜ 18 + length (now parameters) + length (now nas) ≤ length (now packet) ⌝ }
+    ensures buffer { λ _. ⌜ now (packet .exit) ≡ padded (length (now (packet .entry))) (response identifier (now (parameters .entry)) (now (nas .entry))) ⌝ }
+    ensures count { λ r. ⌜ r ≡ length (response identifier (now (parameters .entry)) (now (nas .entry))) ⌝ }
 {
     zero(packet);
-    let number = refusal(identifier, parameters, nas, packet.len());
-    if number != 0 {
-        return number;
-    }
     let m = parameters.len();
     let n = nas.len();
     put_header(packet, identifier, (18 + m + n) as u64);
     put_block(packet, 14, parameters);
     put_block(packet, 16 + m, nas);
+    18 + m + n
+}
+
+// Writes a NAS response and zeros after it, or zeros alone and the number of the refusal.
+pub fn write_response(identifier: u64, parameters: &[u8], nas: &[u8], packet: &mut [u8]) -> u64
+    ensures refused { λ r. ⌜ r ≡ writeRefusal identifier (now (parameters .entry)) (now (nas .entry)) (length (now (packet .entry))) ⌝ }
+    ensures buffer { λ _. ⌜ now (packet .exit) ≡ written identifier (now (parameters .entry)) (now (nas .entry)) (length (now (packet .entry))) ⌝ }
+{
+    let number = refusal(identifier, parameters, nas, packet.len());
+    if number != 0 {
+        zero(packet);
+        return number;
+    }
+    put_response(identifier, parameters, nas, packet);
     0
 }
 

@@ -13,7 +13,7 @@ use Rattle.rules.specs.Claims.{NoRow}
 use Rattle.rules.proofs.Rows.{Passes, passes}
 use Rattle.rules.specs.View.{viewOf, lineFound, viewIn}
 use Rattle.octets.proofs.Parts.{length-zeros, padded-length}
-use Rattle.octets.proofs.Search.{either, or-left, or-right}
+use Rattle.octets.proofs.Search.{either, or-left}
 use Rattle.address.specs.Address.{heldAddresses}
 use Rattle.config.specs.Settings.{Settings, configOf}
 use Rattle.eap.specs.Packet.{readPacket}
@@ -28,7 +28,7 @@ use Rattle.network.specs.declared.Plmn.{Plmn}
 use Rattle.place.specs.declared.Facts.{Facts}
 use Rattle.query.specs.Query.{built}
 use Rattle.record.specs.Line.{Line}
-use Rattle.response.proofs.Writing.{length-response}
+use Rattle.response.proofs.Writing.{in-range, length-response}
 use Rattle.selection.specs.Selection as Selection
 use Rattle.selection.specs.declared.Choice.{Choice}
 use Rattle.selection.specs.declared.Choice.the-variants as Choice
@@ -103,12 +103,11 @@ module _ (x : Line) where
 
   -- a response to AN-parameters and NAS in their ranges has at most 3,090 octets
   replied-short : (parameters nas : List ℕ) → lentOutOfRange parameters nas ≡ false → (o : Option ℕ) → length (replied x parameters nas o .written) ≤ replyRoom
-  unfolding lentOutOfRange replied goes
+  unfolding replied goes
   replied-short parameters nas fit none = omega arith
   replied-short parameters nas fit (some i) =
-      let parameters-fit : ltb 1024 (length parameters) ≡ false = search (or-left, or-right) in
-      let nas-fits : ltb 2048 (length nas) ≡ false = search (or-left, or-right) in
-      rw (length-response i parameters nas) (omega (arith, ltb-false))
+      let fits = in-range parameters nas fit in
+      rw (length-response i parameters nas) (omega arith)
 
 -- what an event that is not refused writes fits its buffer
 written-fits : (e : Event) (out : Bool) (x : Line) → ltb (eventRoom e) (leastEventRoom e) ≡ false → Passes e out x → length (outcome e x .written) ≤ eventRoom e
