@@ -1,15 +1,14 @@
 -- Congestion: the line rests, and its address is held by the timer.
 use Prim.Native.Nat.{ℕ, _+_, _^_, _≤_, _<_}
-use mathlib.Core.Bool.{Bool, true, false, _&&_}
+use mathlib.Core.Bool.{true, false, _&&_}
 use mathlib.Core.List.{[], _∷_, _++_, append-nil, map}
 use mathlib.Core.Option.{Option, none, some}
 use mathlib.Core.Path.{_≡_, refl, sym, ap, _∙_, subst}
 use native.Mathlib.Omega.{arith}
-use lib.Dec.{leb, ltb}
+use lib.Dec.{ltb}
 use lib.ListN.{length, length-append}
 use borrow.Author.Tests.{le-leb, leb-true, lt-ltb, ltb-true, not-true}
-use Rattle.octets.specs.Search.{all}
-use Rattle.octets.proofs.Search.{all-each, and-left, and-right, and-true}
+use Rattle.octets.proofs.Search.{and-true}
 use Rattle.octets.proofs.Sublists.{all-last, any-map, distinct-last, distinct-map}
 use Rattle.address.specs.Address.{addressIn, sameAddress, stands}
 use Rattle.address.specs.declared.Address.{Address}
@@ -26,7 +25,8 @@ use Rattle.phase.specs.Stage as Stage
 use Rattle.phase.specs.declared.Phase.the-variants.{Idle}
 use Rattle.record.specs.Line.{Line}
 use Rattle.record.specs.Sound.{chosen, chosenFree}
-use Rattle.timer.specs.Timer.{timerOf, unitSeconds}
+use Rattle.timer.proofs.Lengths.{seconds-fit}
+use Rattle.timer.specs.Timer.{timerOf}
 use Rattle.timer.specs.declared.Timer.{Timer}
 use Rattle.timer.specs.declared.Timer.the-variants as Timer
 use Rattle.rules.specs.Life.{congested, chosenHold, timerHold, inPhase}
@@ -34,33 +34,15 @@ use Rattle.rules.proofs.Moves.{children-stay, rests, room-left}
 use Rattle.rules.proofs.Phases.{chosen-storable}
 use Rattle.rules.proofs.Valid.{HoldsValid, Valid}
 
--- a timer of 1 second to 31 times 320 hours, without end, or none
-timerFits : Timer → Bool
-timerFits Timer.None = true
-timerFits (Timer.Seconds n) = ltb 0 n && leb n 35_712_000
-timerFits Timer.Deactivated = true
-
-octetFits : ℕ → Bool
-octetFits n = timerFits (timerOf n)
-
--- every timer octet says such a timer
-timer-fits : (octet : ℕ) → octet ≤ 255 → timerFits (timerOf octet) ≡ true
-unfolding octetFits timerFits timerOf unitSeconds all
-timer-fits octet h = all-each 256 octetFits refl octet (omega arith)
-
 -- the end of a hold of n seconds
-module _ (time n : ℕ) (small : ltb time (256 ^ 4) ≡ true) (fits : ltb 0 n && leb n 35_712_000 ≡ true) where
-  some-seconds : 0 < n
-  some-seconds = ltb-true 0 n (and-left (ltb 0 n) (leb n 35_712_000) fits)
-
+module _ (time n : ℕ) (small : ltb time (256 ^ 4) ≡ true) (fits : (0 < n) × (n ≤ 35_712_000)) where
   end-late : ltb time (time + n) ≡ true
-  end-late = lt-ltb time (time + n) (omega (arith, some-seconds))
+  end-late = lt-ltb time (time + n) (omega arith)
 
   end-storable : ltb 0 (time + n) && ltb (time + n) (256 ^ 5) ≡ true
   end-storable =
-      let few : n ≤ 35_712_000 = leb-true n 35_712_000 (and-right (ltb 0 n) (leb n 35_712_000) fits) in
       let early : time < 256 ^ 4 = ltb-true time (256 ^ 4) small in
-      and-true (ltb 0 (time + n)) (ltb (time + n) (256 ^ 5)) (lt-ltb 0 (time + n) (omega (arith, some-seconds))) (lt-ltb (time + n) (256 ^ 5) (omega arith))
+      and-true (ltb 0 (time + n)) (ltb (time + n) (256 ^ 5)) (lt-ltb 0 (time + n) (omega arith)) (lt-ltb (time + n) (256 ^ 5) (omega arith))
 
 module _ (x : Line) (v : Valid x) (calm : isIn Stage.live (x .phase) ≡ false) (busy : isIn Stage.idle (x .phase) ≡ false) where
   -- the holds as they were
@@ -97,15 +79,15 @@ module _ (x : Line) (v : Valid x) (calm : isIn Stage.live (x .phase) ≡ false) 
         }
 
   -- the hold that the timer sets, or none
-  more-holds : (o : Option Address) → chosen (x .phase) ≡ o → (t : Timer) → timerFits t ≡ true → HoldsValid (x .time) Idle (x .holds ++ chosenHold (x .time) t o)
-  unfolding chosenHold timerHold timerFits endsAfter endAfter holdStorable endStorable
+  more-holds : (o : Option Address) → chosen (x .phase) ≡ o → (t : Timer) → ((n : ℕ) → t ≡ Timer.Seconds n → (0 < n) × (n ≤ 35_712_000)) → HoldsValid (x .time) Idle (x .holds ++ chosenHold (x .time) t o)
+  unfolding chosenHold timerHold endsAfter endAfter holdStorable endStorable
   more-holds none e t fits = same-holds
   more-holds (some a) e Timer.None fits = same-holds
   more-holds (some a) e (Timer.Seconds n) fits =
       let own = chosen-storable (x .phase) a e (v .phase-valid .storable) in
       let end = x .time + n in
-      let storable = and-true (addressStorable a) (ltb 0 end && ltb end (256 ^ 5)) own (end-storable (x .time) n (v .small) fits) in
-      one-hold (record { address = a; end = At end }) e (end-late (x .time) n (v .small) fits) storable
+      let storable = and-true (addressStorable a) (ltb 0 end && ltb end (256 ^ 5)) own (end-storable (x .time) n (v .small) (fits n refl)) in
+      one-hold (record { address = a; end = At end }) e (end-late (x .time) n (v .small) (fits n refl)) storable
   more-holds (some a) e Timer.Deactivated fits =
       let own = chosen-storable (x .phase) a e (v .phase-valid .storable) in
       one-hold (record { address = a; end = Never }) e refl (and-true (addressStorable a) true own refl)
@@ -117,5 +99,5 @@ module _ (x : Line) (v : Valid x) (calm : isIn Stage.live (x .phase) ≡ false) 
     small = v .small;
     phase-valid = record { fits = refl; storable = refl };
     children-valid = children-stay x v calm Idle;
-    holds-valid = more-holds (chosen (x .phase)) refl (timerOf octet) (timer-fits octet h);
+    holds-valid = more-holds (chosen (x .phase)) refl (timerOf octet) (λ n. seconds-fit octet n h);
   }

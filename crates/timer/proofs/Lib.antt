@@ -1,2 +1,3 @@
--- The laws that the proofs of this crate share.
+-- The laws that the proofs of this crate share, and how long a hold lasts for those above it.
 pub mod Table
+pub mod Lengths

@@ -3,7 +3,7 @@
 use borrow.Author.Needs.{needs}
 use borrow.Author.Tests.{eq-eqb, ne-eqb}
 use Rattle.timer.specs.Timer.{timerOf}
-use Rattle.timer.proofs.Table.{product}
+use Rattle.timer.proofs.Lengths.{product}
 use Rattle.timer.proofs.read.Statement.{statement}
 use Rattle.timer.proofs.read.Tie as tie
 
