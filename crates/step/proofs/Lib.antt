@@ -1,0 +1,2 @@
+-- The laws that the proofs of steps share.
+pub mod Steps

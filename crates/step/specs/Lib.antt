@@ -1,0 +1,2 @@
+-- What every step on a line shares.
+pub mod Step
