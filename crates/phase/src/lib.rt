@@ -5,6 +5,7 @@ mod place_facts;
 use address::Address;
 use place::Facts;
 ghost use mathlib.Core.Path.{_≡_};
+ghost use Rattle.phase.specs.Chosen.{addressOption, chosen};
 ghost use Rattle.phase.specs.Laws.{Laws};
 ghost use Rattle.phase.specs.Stage.{stageNumber, stageOf};
 
@@ -29,6 +30,12 @@ pub enum Phase {
     Eap(Address, Turn),
     Sure(Address),
     Live(Address),
+}
+
+// An address or none.
+pub enum MaybeAddress {
+    Is(Address),
+    None,
 }
 
 // The number of each phase in a record.
@@ -64,6 +71,23 @@ pub fn number(phase: Phase) -> u64
         Phase::Eap(_, _) => EAP,
         Phase::Sure(_) => SURE,
         Phase::Live(_) => LIVE,
+    }
+}
+
+// The chosen address of a phase.
+pub fn chosen(phase: Phase) -> MaybeAddress
+    ensures { λ r. ⌜ addressOption r ≡ chosen phase ⌝ }
+{
+    match phase {
+        Phase::Idle => MaybeAddress::None,
+        Phase::Country(_) => MaybeAddress::None,
+        Phase::Name(_) => MaybeAddress::None,
+        Phase::Chosen(a) => MaybeAddress::Is(a),
+        Phase::Init(a) => MaybeAddress::Is(a),
+        Phase::Auth(a) => MaybeAddress::Is(a),
+        Phase::Eap(a, _) => MaybeAddress::Is(a),
+        Phase::Sure(a) => MaybeAddress::Is(a),
+        Phase::Live(a) => MaybeAddress::Is(a),
     }
 }
 

@@ -23,6 +23,7 @@ use Rattle.children.proofs.RoundTrip as Children
 use Rattle.holds.specs.Holds.{different, endsAfter, holdIn, holdsFrom, holdsOctets, holdsWritten, holdsRoom}
 use Rattle.holds.specs.Laws.{holdStorable}
 use Rattle.holds.proofs.RoundTrip as Holds
+use Rattle.phase.specs.Chosen.{chosen}
 use Rattle.phase.specs.Laws.{phaseStorable}
 use Rattle.phase.specs.Phase.{phaseFits, phaseFrom, phaseOctets, phaseWritten}
 use Rattle.phase.proofs.Reading as Reading
@@ -33,7 +34,7 @@ use Rattle.phase.specs.Stage as Stage
 use Rattle.record.specs.Laws.{lineStorable}
 use Rattle.record.specs.Line.{Line}
 use Rattle.record.specs.Octets.{lineFrom, recordOctets, recordLength, childrenPlace}
-use Rattle.record.specs.Sound.{childrenSound, chosen, holdsSound, inRange, chosenFree, isRecord, lineSound, lineWritten}
+use Rattle.record.specs.Sound.{childrenSound, holdsSound, inRange, chosenFree, isRecord, lineSound, lineWritten}
 use Rattle.record.proofs.Lines.{line-read}
 use Rattle.record.proofs.Sounds.{child-count, hold-count, record-line, record-lists}
 use Rattle.record.proofs.Writing.{counted, counted-length, first-count, head, head-length, held-length}

@@ -17,6 +17,7 @@ use Rattle.address.specs.declared.Hold.{Hold}
 use Rattle.children.specs.Children.{childFits, childrenWritten, spisDiffer}
 use Rattle.children.specs.declared.Child.{Child}
 use Rattle.holds.specs.Holds.{different, endsAfter, hasAddress, holdsWritten, holdsRoom}
+use Rattle.phase.specs.Chosen.{chosen}
 use Rattle.phase.specs.Phase.{isPhase, phaseFits, phaseFrom, phaseWritten}
 use Rattle.phase.specs.Stage.{isIn}
 use Rattle.phase.specs.Stage as Stage
@@ -24,7 +25,7 @@ use Rattle.phase.specs.declared.Phase.{Phase}
 use Rattle.record.specs.Branch.{listsSound, listsWritten}
 use Rattle.record.specs.Line.{Line}
 use Rattle.record.specs.Octets.{lineFrom, childrenPlace}
-use Rattle.record.specs.Sound.{childrenSound, chosen, holdsSound, inRange, chosenFree, isRecord, lineSound, lineWritten}
+use Rattle.record.specs.Sound.{childrenSound, holdsSound, inRange, chosenFree, isRecord, lineSound, lineWritten}
 
 module _ (p : Phase) (cs : List Child) (n : ℕ) (size : length cs ≡ n) (few : n ≤ 8) where
   pub live-children : isIn Stage.live p ≡ true → spisDiffer cs ≡ childrenSound p cs

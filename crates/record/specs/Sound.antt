@@ -13,25 +13,13 @@ use Rattle.address.specs.declared.Hold.{Hold}
 use Rattle.children.specs.declared.Child.{Child}
 use Rattle.children.specs.Children.{childFits, childrenWritten, mostChildren, spisDiffer}
 use Rattle.holds.specs.Holds.{different, endsAfter, holdsWritten}
+use Rattle.phase.specs.Chosen.{chosen}
 use Rattle.phase.specs.Phase.{phaseFits, phaseWritten}
 use Rattle.phase.specs.Stage.{isIn}
 use Rattle.phase.specs.Stage as Stage
 use Rattle.phase.specs.declared.Phase.{Phase}
-use Rattle.phase.specs.declared.Phase.the-variants.{Idle, Country, Name, Chosen, Init, Auth, Eap, Sure, Live}
 use Rattle.record.specs.Line.{Line}
 use Rattle.record.specs.Octets.{childCountPlace, childrenPlace, holdCountPlace, holdsPlace, lineFrom, phasePlace}
-
--- the chosen address
-unfoldable pub chosen : Phase → Option Address
-chosen Idle = none
-chosen (Country f) = none
-chosen (Name f) = none
-chosen (Chosen a) = some a
-chosen (Init a) = some a
-chosen (Auth a) = some a
-chosen (Eap a t) = some a
-chosen (Sure a) = some a
-chosen (Live a) = some a
 
 -- every field in its range
 unfoldable pub inRange : Phase → List Child → Bool

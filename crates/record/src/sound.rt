@@ -15,7 +15,9 @@ use holds::all_end_after;
 use octets::number::get;
 use phase::IDLE;
 use phase::LIVE;
+use phase::MaybeAddress;
 use phase::Phase;
+use phase::chosen;
 use phase::codec::is_phase;
 use phase::number;
 ghost use mathlib.Core.Bool.{_||_};
@@ -25,11 +27,12 @@ ghost use lib.Dec.{leb};
 ghost use lib.ListN.{length, take};
 ghost use Rattle.address.specs.Address.{heldAddresses, mostHolds};
 ghost use Rattle.children.specs.Children.{mostChildren};
+ghost use Rattle.phase.specs.Chosen.{chosen};
 ghost use Rattle.phase.specs.Stage.{isIn};
 ghost use Rattle.phase.specs.Stage as Stage;
 ghost use Rattle.record.specs.Octets.{recordLength};
 ghost use Rattle.record.specs.Branch.{listsSound, listsWritten};
-ghost use Rattle.record.specs.Sound.{childrenSound, chosen, holdsSound, chosenFree, isRecord, mostBusyHolds};
+ghost use Rattle.record.specs.Sound.{childrenSound, holdsSound, chosenFree, isRecord, mostBusyHolds};
 
 // How many holds a line that is not idle has room for.
 const BUSY_HOLDS: usize = 7;
@@ -52,16 +55,9 @@ fn is_free(phase: Phase, holds: [Hold; HOLDS], n: usize) -> bool
     requires { ⌜ n ≤ mostHolds ⌝ }
     ensures { λ r. ⌜ r ≡ chosenFree (chosen phase) (heldAddresses (take n holds)) ⌝ }
 {
-    match phase {
-        Phase::Idle => true,
-        Phase::Country(_) => true,
-        Phase::Name(_) => true,
-        Phase::Chosen(a) => !is_held(holds, 0, n, a),
-        Phase::Init(a) => !is_held(holds, 0, n, a),
-        Phase::Auth(a) => !is_held(holds, 0, n, a),
-        Phase::Eap(a, _) => !is_held(holds, 0, n, a),
-        Phase::Sure(a) => !is_held(holds, 0, n, a),
-        Phase::Live(a) => !is_held(holds, 0, n, a),
+    match chosen(phase) {
+        MaybeAddress::Is(a) => !is_held(holds, 0, n, a),
+        MaybeAddress::None => true,
     }
 }
 

@@ -21,13 +21,14 @@ use Rattle.octets.proofs.Search.{and-right, or-left, or-right, or-true}
 use Rattle.octets.specs.Row.{isSome}
 use Rattle.children.specs.Children.{spisDiffer}
 use Rattle.holds.specs.Holds.{different}
+use Rattle.phase.specs.Chosen.{chosen}
 use Rattle.phase.specs.Laws.{phaseStorable}
 use Rattle.phase.specs.Phase.{phaseFits}
 use Rattle.phase.specs.Stage.{isIn}
 use Rattle.record.specs.Laws.{lineStorable}
 use Rattle.record.specs.Line.{Line}
 use Rattle.record.specs.Octets.{lineFrom, recordLength}
-use Rattle.record.specs.Sound.{childrenSound, chosen, holdsSound, inRange, chosenFree, isRecord, lineSound, lineWritten}
+use Rattle.record.specs.Sound.{childrenSound, holdsSound, inRange, chosenFree, isRecord, lineSound, lineWritten}
 use Rattle.record.proofs.RoundTrip as RoundTrip
 use Rattle.table.specs.Laws.{mayStand, slotFits}
 use Rattle.table.specs.Slots.{Slot, Used, isOf, isOpen, lineAt, pairIn, slotAt, slotsOf}

@@ -13,8 +13,8 @@ use Rattle.eap.specs.Packet.{readPacket}
 use Rattle.eap.specs.declared.Packet.{Packet}
 use Rattle.eap.specs.declared.Packet.the-variants.{Start, NasRequest, Success, NasResponse, Stop, Other}
 use Rattle.lists.specs.Lists.{addressesIn, networksIn}
+use Rattle.phase.specs.Chosen.{chosen}
 use Rattle.record.specs.Line.{Line}
-use Rattle.record.specs.Sound.{chosen}
 use Rattle.selection.specs.Selection as Selection
 use Rattle.timer.specs.Timer.{timerOf, unitSeconds}
 use Rattle.timer.specs.declared.Timer.the-variants as Timer

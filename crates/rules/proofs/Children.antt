@@ -14,6 +14,7 @@ use Rattle.octets.proofs.Sublists.{all-last, distinct-last, only-all, only-dist
 use Rattle.children.specs.Children.{childFits, hasSpi, isOther, isSpi, sameSpi, spisDiffer}
 use Rattle.children.specs.Laws.{childStorable}
 use Rattle.children.specs.declared.Child.{Child}
+use Rattle.phase.specs.Chosen.{chosen}
 use Rattle.phase.specs.Laws.{phaseStorable}
 use Rattle.phase.specs.Phase.{phaseFits}
 use Rattle.phase.specs.Stage.{isIn}
@@ -21,7 +22,7 @@ use Rattle.phase.specs.Stage as Stage
 use Rattle.phase.specs.declared.Phase.{Phase}
 use Rattle.phase.specs.declared.Phase.the-variants.{Idle}
 use Rattle.record.specs.Line.{Line}
-use Rattle.record.specs.Sound.{chosen, chosenFree}
+use Rattle.record.specs.Sound.{chosenFree}
 use Rattle.rules.specs.Life.{inPhase, withChildren}
 use Rattle.rules.specs.Refusals.{isChild}
 use Rattle.rules.proofs.Valid.{ChildrenValid, Valid}

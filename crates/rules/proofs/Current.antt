@@ -15,11 +15,12 @@ use Rattle.address.specs.declared.Address.{Address}
 use Rattle.address.specs.declared.Hold.{Hold}
 use Rattle.holds.specs.Holds.{different, endsAfter}
 use Rattle.holds.specs.Laws.{holdStorable}
+use Rattle.phase.specs.Chosen.{chosen}
 use Rattle.phase.specs.Stage.{isIn}
 use Rattle.phase.specs.Stage as Stage
 use Rattle.phase.specs.declared.Phase.{Phase}
 use Rattle.record.specs.Line.{Line}
-use Rattle.record.specs.Sound.{chosen, chosenFree}
+use Rattle.record.specs.Sound.{chosenFree}
 use Rattle.rules.specs.Life.{current}
 use Rattle.octets.proofs.Search.{or-second, smaller}
 use Rattle.octets.proofs.Sublists.{any-map, distinct-map, only-all, only-distinct, only-length, only-none, only-passes}

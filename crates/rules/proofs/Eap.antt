@@ -22,6 +22,7 @@ use Rattle.addresses.specs.Laws.{addressStorable}
 use Rattle.eap.specs.Packet.{identifier, isMessage, isNasRequest, isNasResponse, isSuccess, nasPlace, readPacket}
 use Rattle.eap.specs.declared.Packet.{Packet}
 use Rattle.eap.specs.declared.Packet.the-variants.{Start, NasRequest, Success, NasResponse, Stop, Other}
+use Rattle.phase.specs.Chosen.{chosen}
 use Rattle.phase.specs.Laws.{phaseStorable, turnStorable}
 use Rattle.phase.specs.Phase.{phaseFits}
 use Rattle.phase.specs.Stage.{isIn}
@@ -31,7 +32,6 @@ use Rattle.phase.specs.declared.Phase.the-variants.{Eap, Sure, Live}
 use Rattle.phase.specs.declared.Turn.{Turn}
 use Rattle.phase.specs.declared.Turn.the-variants.{First, Owed, Answered}
 use Rattle.record.specs.Line.{Line}
-use Rattle.record.specs.Sound.{chosen}
 use Rattle.rules.specs.Life.{goes, keeps, packetTaken, replied}
 use Rattle.rules.specs.Phases.{lastReply, owed, turnIn}
 use Rattle.rules.specs.Refusals.{isDue, isIdentifier}

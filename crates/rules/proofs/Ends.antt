@@ -18,13 +18,14 @@ use Rattle.address.proofs.Numbers.{same-turned}
 use Rattle.addresses.specs.Laws.{addressStorable}
 use Rattle.holds.specs.Holds.{different, endAfter, endsAfter}
 use Rattle.holds.specs.Laws.{endStorable, holdStorable}
+use Rattle.phase.specs.Chosen.{chosen}
 use Rattle.phase.specs.Laws.{phaseStorable}
 use Rattle.phase.specs.Phase.{phaseFits}
 use Rattle.phase.specs.Stage.{isIn}
 use Rattle.phase.specs.Stage as Stage
 use Rattle.phase.specs.declared.Phase.the-variants.{Idle}
 use Rattle.record.specs.Line.{Line}
-use Rattle.record.specs.Sound.{chosen, chosenFree}
+use Rattle.record.specs.Sound.{chosenFree}
 use Rattle.timer.proofs.Lengths.{seconds-fit}
 use Rattle.timer.specs.Timer.{timerOf}
 use Rattle.timer.specs.declared.Timer.{Timer}

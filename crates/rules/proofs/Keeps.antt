@@ -16,13 +16,14 @@ use Rattle.children.specs.Children.{hasSpi}
 use Rattle.config.specs.Settings.{configOf}
 use Rattle.eap.specs.Packet.{readPacket}
 use Rattle.lists.specs.Lists.{addressesIn, networksIn}
+use Rattle.phase.specs.Chosen.{chosen}
 use Rattle.phase.specs.Stage.{Stage, isIn, stageNumber}
 use Rattle.phase.specs.Stage as Stage
 use Rattle.phase.specs.declared.Phase.{Phase}
 use Rattle.phase.specs.declared.Phase.the-variants.{Init, Auth, Live}
 use Rattle.record.specs.Laws.{lineStorable}
 use Rattle.record.specs.Line.{Line}
-use Rattle.record.specs.Sound.{chosen, lineSound}
+use Rattle.record.specs.Sound.{lineSound}
 use Rattle.selection.specs.Selection as Selection
 use Rattle.rules.specs.Call.{Event, start, country, address, begin, init, eap, reply, final, error, congestion, give-up, child-made, child-deleted, ike-delete, eventOctets, lastTime, startNumbersFit}
 use Rattle.rules.specs.declared.StartNumbers.{StartNumbers}

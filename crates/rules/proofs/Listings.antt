@@ -17,10 +17,11 @@ use Rattle.address.proofs.Numbers.{width-most}
 use Rattle.address.specs.declared.Address.{Address}
 use Rattle.children.specs.Children.{childFits}
 use Rattle.children.specs.declared.Child.{Child}
+use Rattle.phase.specs.Chosen.{chosen}
 use Rattle.phase.specs.Stage.{Stage, stageOf}
 use Rattle.phase.specs.Stage as Stage
 use Rattle.record.specs.Line.{Line}
-use Rattle.record.specs.Sound.{childrenSound, chosen, inRange, lineSound}
+use Rattle.record.specs.Sound.{childrenSound, inRange, lineSound}
 use Rattle.table.specs.Slots.{lineAt, slotsOf}
 use Rattle.table.specs.Table.{isTable}
 use Rattle.text.specs.Text.{text}

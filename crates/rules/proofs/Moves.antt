@@ -9,6 +9,7 @@ use Rattle.octets.proofs.Search.{or-other, or-true}
 use Rattle.address.specs.Address.{addressIn}
 use Rattle.address.specs.declared.Address.{Address}
 use Rattle.addresses.specs.Laws.{addressStorable}
+use Rattle.phase.specs.Chosen.{chosen}
 use Rattle.phase.specs.Laws.{phaseStorable}
 use Rattle.phase.specs.Phase.{phaseFits}
 use Rattle.phase.specs.Stage.{isIn}
@@ -16,7 +17,7 @@ use Rattle.phase.specs.Stage as Stage
 use Rattle.phase.specs.declared.Phase.{Phase}
 use Rattle.phase.specs.declared.Phase.the-variants.{Idle, Init, Auth, Sure, Live}
 use Rattle.record.specs.Line.{Line}
-use Rattle.record.specs.Sound.{chosen, chosenFree}
+use Rattle.record.specs.Sound.{chosenFree}
 use Rattle.rules.specs.Life.{inPhase, onward}
 use Rattle.rules.proofs.Phases.{chosen-busy, chosen-storable}
 use Rattle.rules.proofs.Valid.{ChildrenValid, PhaseValid, Valid}

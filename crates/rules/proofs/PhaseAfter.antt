@@ -24,6 +24,7 @@ use Rattle.gateway.specs.declared.Found.{Found}
 use Rattle.gateway.specs.declared.Found.the-variants as Found
 use Rattle.lists.specs.Lists.{addressesIn, networksIn}
 use Rattle.network.specs.declared.Plmn.{Plmn}
+use Rattle.phase.specs.Chosen.{chosen}
 use Rattle.phase.specs.Stage.{Stage, isIn, stageNumber, stageOf}
 use Rattle.phase.specs.Stage as Stage
 use Rattle.phase.specs.declared.Phase.{Phase}
@@ -33,7 +34,6 @@ use Rattle.phase.specs.declared.Turn.the-variants.{First, Owed, Answered}
 use Rattle.place.specs.declared.Facts.{Facts}
 use Rattle.preference.specs.Preference.{ranked, unranked}
 use Rattle.record.specs.Line.{Line}
-use Rattle.record.specs.Sound.{chosen}
 use Rattle.selection.specs.Selection as Selection
 use Rattle.selection.specs.declared.Choice.{Choice}
 use Rattle.selection.specs.declared.Choice.the-variants as Choice

@@ -8,6 +8,7 @@ use Rattle.octets.proofs.Search.{and-left, and-right}
 use Rattle.octets.specs.Row.{isSome}
 use Rattle.address.specs.declared.Address.{Address}
 use Rattle.addresses.specs.Laws.{addressStorable}
+use Rattle.phase.specs.Chosen.{chosen}
 use Rattle.phase.specs.Facts.{factsFit}
 use Rattle.phase.specs.Laws.{phaseStorable, turnStorable}
 use Rattle.phase.specs.Phase.{isAbroad, phaseFits}
@@ -18,7 +19,6 @@ use Rattle.phase.specs.declared.Phase.the-variants.{Idle, Country, Name, Chosen
 use Rattle.phase.specs.declared.Turn.{Turn}
 use Rattle.phase.specs.declared.Turn.the-variants.{First, Owed, Answered}
 use Rattle.place.specs.declared.Facts.{Facts}
-use Rattle.record.specs.Sound.{chosen}
 use Rattle.rules.specs.Phases.{factsIn, owed, turnIn}
 
 -- a phase that passes a test which no live line passes

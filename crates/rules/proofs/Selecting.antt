@@ -24,6 +24,7 @@ use Rattle.gateway.specs.Gateway.{choose, foundAt}
 use Rattle.lists.specs.Lists.{addressAt, addressesIn}
 use Rattle.network.specs.declared.MaybePlmn.the-variants.{Is, None}
 use Rattle.network.specs.declared.Plmn.{Plmn}
+use Rattle.phase.specs.Chosen.{chosen}
 use Rattle.phase.specs.Facts.{factsFit, placeFits, registeredFits}
 use Rattle.phase.specs.Laws.{phaseStorable}
 use Rattle.phase.specs.Phase.{isAbroad, phaseFits}
@@ -35,7 +36,7 @@ use Rattle.place.specs.declared.Place.{Place}
 use Rattle.place.specs.declared.Place.the-variants.{Unknown, Home, Abroad}
 use Rattle.preference.specs.Preference.{ranked, unranked}
 use Rattle.record.specs.Line.{Line}
-use Rattle.record.specs.Sound.{chosen, chosenFree}
+use Rattle.record.specs.Sound.{chosenFree}
 use Rattle.selection.specs.Selection as Selection
 use Rattle.selection.specs.declared.Choice.{Choice}
 use Rattle.selection.specs.declared.Choice.the-variants as Choice

@@ -14,6 +14,7 @@ use Rattle.children.specs.Laws.{childStorable}
 use Rattle.children.specs.declared.Child.{Child}
 use Rattle.holds.specs.Holds.{different, endsAfter}
 use Rattle.holds.specs.Laws.{holdStorable}
+use Rattle.phase.specs.Chosen.{chosen}
 use Rattle.phase.specs.Laws.{phaseStorable}
 use Rattle.phase.specs.Phase.{phaseFits}
 use Rattle.phase.specs.Stage.{isIn}
@@ -21,7 +22,7 @@ use Rattle.phase.specs.Stage as Stage
 use Rattle.phase.specs.declared.Phase.{Phase}
 use Rattle.record.specs.Laws.{lineStorable}
 use Rattle.record.specs.Line.{Line}
-use Rattle.record.specs.Sound.{childrenSound, chosen, holdsSound, inRange, chosenFree, lineSound}
+use Rattle.record.specs.Sound.{childrenSound, holdsSound, inRange, chosenFree, lineSound}
 
 -- the data of a phase are in their ranges and fit their octets
 pub record PhaseValid (p : Phase) : Type 0 where

@@ -16,6 +16,7 @@ use Rattle.children.specs.declared.Child.{Child}
 use Rattle.eap.specs.Packet.{readPacket}
 use Rattle.eap.specs.declared.Packet.the-variants.{Start, NasRequest, Success}
 use Rattle.holds.specs.Holds.{endsAfter}
+use Rattle.phase.specs.Chosen.{chosen}
 use Rattle.phase.specs.Stage.{isIn}
 use Rattle.phase.specs.Stage as Stage
 use Rattle.phase.specs.declared.Phase.{Phase}
@@ -24,7 +25,6 @@ use Rattle.phase.specs.declared.Turn.{Turn}
 use Rattle.phase.specs.declared.Turn.the-variants.{First, Owed, Answered}
 use Rattle.place.specs.declared.Facts.{Facts}
 use Rattle.record.specs.Line.{Line}
-use Rattle.record.specs.Sound.{chosen}
 use Rattle.table.specs.Table.{freePair, recordOf}
 use Rattle.response.specs.Response.{response}
 use Rattle.timer.specs.Timer.{unitSeconds}

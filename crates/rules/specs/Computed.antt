@@ -30,9 +30,9 @@ use Rattle.query.specs.Query as Query
 use Rattle.holds.specs.Holds as Holds
 use Rattle.children.specs.Children as Children
 use Rattle.children.specs.Laws as ChildLaws
+use Rattle.phase.specs.Chosen as Chosen
 use Rattle.phase.specs.Stage.{isIn}
 use Rattle.phase.specs.Stage as Stage
-use Rattle.record.specs.Sound as Sound
 use Rattle.table.specs.Slots as TableSlots
 use Rattle.table.specs.Table.{recordCount}
 use Rattle.rules.specs.Call as RulesCall
@@ -97,7 +97,7 @@ unfolding empty slotsOn
     Query.built Query.asked
     Holds.endAfter Holds.endsAfter
     Children.isSpi Children.isOther Children.hasSpi Children.childFits ChildLaws.childStorable
-    Sound.chosen
+    Chosen.chosen
     TableSlots.pairIn TableSlots.isOf TableSlots.isOpen TableSlots.slotLine TableSlots.lineAt TableSlots.replaced
     RulesCall.tenantOf RulesCall.pairOf RulesCall.startNumbersFit RulesCall.placeOf RulesCall.registeredOf RulesCall.factsOf
     RulesAnswer.twelve RulesAnswer.numbersOf RulesAnswer.eventRoom RulesAnswer.roomOf RulesAnswer.refused

@@ -22,6 +22,7 @@ use Rattle.gateway.specs.declared.Found.the-variants as Found
 use Rattle.holds.specs.Holds.{endsAfter}
 use Rattle.network.specs.declared.Plmn.{Plmn}
 use Rattle.lists.specs.Lists.{addressesIn, networksIn}
+use Rattle.phase.specs.Chosen.{chosen}
 use Rattle.phase.specs.Stage.{isIn}
 use Rattle.phase.specs.Stage as Stage
 use Rattle.phase.specs.declared.Phase.{Phase}
@@ -30,7 +31,6 @@ use Rattle.phase.specs.declared.Turn.the-variants.{First, Owed, Answered}
 use Rattle.place.specs.declared.Facts.{Facts}
 use Rattle.query.specs.Query.{asked, built}
 use Rattle.record.specs.Line.{Line}
-use Rattle.record.specs.Sound.{chosen}
 use Rattle.response.specs.Response.{response}
 use Rattle.selection.specs.Selection as Selection
 use Rattle.selection.specs.declared.Choice.{Choice}

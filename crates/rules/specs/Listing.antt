@@ -9,10 +9,10 @@ use Rattle.address.specs.Address.{numberOf, versionOf, widthOf}
 use Rattle.address.specs.declared.Address.{Address}
 use Rattle.children.specs.declared.Child.{Child}
 use Rattle.entry.specs.Pieces.{newlineCode, tabCode}
+use Rattle.phase.specs.Chosen.{chosen}
 use Rattle.phase.specs.Stage.{Stage, stageOf}
 use Rattle.phase.specs.Stage as Stage
 use Rattle.record.specs.Line.{Line}
-use Rattle.record.specs.Sound.{chosen}
 use Rattle.text.specs.Text.{text, decimal, digitText}
 
 -- a tab between fields, a newline after a record

@@ -15,6 +15,7 @@ use Rattle.children.specs.declared.Child.{Child}
 use Rattle.holds.specs.Holds.{different, endAfter, endsAfter}
 use Rattle.network.specs.declared.MaybePlmn.{MaybePlmn}
 use Rattle.network.specs.declared.MaybePlmn.the-variants.{Is, None}
+use Rattle.phase.specs.Chosen.{chosen}
 use Rattle.phase.specs.Facts.{factsFit, placeFits, registeredFits}
 use Rattle.phase.specs.Phase.{isAbroad, phaseFits}
 use Rattle.phase.specs.Stage.{isIn}
@@ -25,7 +26,7 @@ use Rattle.place.specs.declared.Facts.{Facts}
 use Rattle.place.specs.declared.Place.{Place}
 use Rattle.place.specs.declared.Place.the-variants.{Unknown, Home, Abroad}
 use Rattle.record.specs.Line.{Line}
-use Rattle.record.specs.Sound.{childrenSound, chosen, chosenFree, holdsSound, inRange, lineSound}
+use Rattle.record.specs.Sound.{childrenSound, chosenFree, holdsSound, inRange, lineSound}
 
 -- place facts, a registered PLMN, a hold without end, holds for n addresses, a child, and n children with session 1
 unfoldable pub facts : Place → MaybePlmn → ℕ → Facts
