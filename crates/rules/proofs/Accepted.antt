@@ -99,7 +99,7 @@ module _ (l : List ℕ) (sound : isTable l ≡ true) (pair : ℕ) (low : 1 ≤ p
   is-line = ap (λ (o : Option Line). lineOr o) (sym (line-found l pair is-found low) ∙ e)
 
   -- its record is a sound one
-  used-record : isRecord s ≡ true
+  pub used-record : isRecord s ≡ true
   unfolding slotAt
   used-record = go (same s (zeros recordLength)) refl (table-kept l sound (recordOf l pair) is-found)
     where

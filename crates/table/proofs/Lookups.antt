@@ -28,7 +28,7 @@ open-line pair low (s ∷ ss) = go (isOf pair s) refl (open-line pair low ss)
     go false e rest = rest
 
 -- a pair that is not open has no line
-closed-line : (pair : ℕ) (ss : List Slot) → isOpen pair ss ≡ false → lineAt pair ss ≡ none
+pub closed-line : (pair : ℕ) (ss : List Slot) → isOpen pair ss ≡ false → lineAt pair ss ≡ none
 unfolding isOpen anyOf lineAt
 closed-line pair [] e = refl
 closed-line pair (s ∷ ss) e = rw (or-left (isOf pair s) (anyOf (isOf pair) ss) e, closed-line pair ss (or-right (isOf pair s) (anyOf (isOf pair) ss) e))

@@ -1,0 +1,3 @@
+-- The text of one tenant.
+pub mod Listed
+pub mod Branch
