@@ -1,3 +1,4 @@
 -- The laws that the proofs of this crate share.
+pub mod Lines
 pub mod Puts
 pub mod Texts

@@ -1,11 +1,12 @@
 -- Texts that are stored one behind the other.
 use Prim.Native.Nat.{ℕ, _+_, _≤_}
 use mathlib.Core.List.{List, [], _++_}
-use mathlib.Core.Path.{_≡_, refl, sym, ap₂, _∙_, subst}
+use mathlib.Core.Path.{_≡_, refl, sym, ap, ap₂, _∙_, subst}
 use native.Mathlib.Omega.{arith}
 use lib.ListN.{length, length-append}
 use lib.Seq.{sets}
-use Rattle.octets.proofs.Parts.{sets-append, then, wrote-length}
+use Rattle.octets.specs.Part.{Wrote, padded, zeros}
+use Rattle.octets.proofs.Parts.{padded-wrote, sets-append, then, wrote-length}
 use Rattle.listing.specs.Branch.{Fits, Put}
 
 -- the same text
@@ -44,19 +45,25 @@ pub record Left (b : List ℕ) (place : ℕ) (vs b₀ : List ℕ) (at : ℕ) (wh
 pub left-all : (b : List ℕ) (at : ℕ) (vs : List ℕ) → Left b at vs b at vs
 left-all b at vs = record { stored = refl; ends = refl; size = refl }
 
-module _ {b : List ℕ} {place : ℕ} {b₀ : List ℕ} {at : ℕ} {whole : List ℕ} where
+module _ {b : List ℕ} {place : ℕ} {us b₀ : List ℕ} {at : ℕ} {whole : List ℕ} (left : Left b place us b₀ at whole) where
   -- a first part of what is left fits where the whole does
-  pub left-fits : {vs : List ℕ} (ws : List ℕ) → Left b place (vs ++ ws) b₀ at whole → Fits b₀ at whole → Fits b place vs
-  left-fits {vs} ws left f = record { room = omega (arith, f .room, left .ends, left .size, length-append vs ws) }
+  pub left-fits : {vs : List ℕ} (ws : List ℕ) → us ≡ vs ++ ws → Fits b₀ at whole → Fits b place vs
+  left-fits {vs} ws e f = record { room = omega (arith, f .room, left .ends, left .size, ap length e ∙ length-append vs ws) }
 
-  -- and once it is stored, the rest is left
-  pub left-less : {vs ws m : List ℕ} {next : ℕ} → Left b place (vs ++ ws) b₀ at whole → Put b place vs m next → Left m next ws b₀ at whole
-  left-less {vs} {ws} {m} {next} left p = record {
-    stored = ap₂ (λ (k : List ℕ) (i : ℕ). sets k i ws) (p .wrote .wrote) (p .behind) ∙ sym (sets-append b place vs ws) ∙ left .stored;
-    ends = omega (arith, left .ends, p .behind, length-append vs ws);
+  -- once it is stored, the rest is left
+  pub left-less : {vs ws m : List ℕ} {next : ℕ} → us ≡ vs ++ ws → Put b place vs m next → Left m next ws b₀ at whole
+  left-less {vs} {ws} {m} {next} e p = record {
+    stored =
+        ap₂ (λ (k : List ℕ) (i : ℕ). sets k i ws) (p .wrote .wrote) (p .behind) ∙ sym (sets-append b place vs ws) ∙ ap (sets b place) (sym e) ∙ left .stored;
+    ends = omega (arith, left .ends, p .behind, ap length e ∙ length-append vs ws);
     size = wrote-length (p .wrote) ∙ left .size;
   }
 
   -- where nothing is left, the whole is stored
-  pub left-none : Left b place [] b₀ at whole → Put b₀ at whole b place
-  left-none left = record { wrote = record { wrote = left .stored }; behind = omega (arith, left .ends) }
+  pub left-done : us ≡ [] → Put b₀ at whole b place
+  left-done e = record { wrote = record { wrote = sym (ap (sets b place) e) ∙ left .stored }; behind = omega (arith, left .ends, ap length e) }
+
+-- zeros with a text stored from their start, and its length
+pub put-padded : {l m : List ℕ} {n next : ℕ} {vs : List ℕ} → l ≡ zeros n → length vs ≤ n → Put l 0 vs m next → (m ≡ padded n vs) × (next ≡ length vs)
+put-padded {l} {m} {n} {next} {vs} clear room p =
+    (padded-wrote n vs m room (subst (λ (k : List ℕ). Wrote k 0 vs m) clear (p .wrote)), omega (arith, p .behind))

@@ -54,13 +54,7 @@ fn put_child(buffer: &mut [u8], at: usize, line: u64, child: Child) -> usize
 }
 
 // Stores the records of the first n children of a line and returns the place behind them.
-fn put_children(
-    buffer: &mut [u8],
-    at: usize,
-    line: u64,
-    list: [Child; CHILDREN],
-    n: usize,
-) -> usize
+fn put_children(buffer: &mut [u8], at: usize, line: u64, list: [Child; CHILDREN], n: usize) -> usize
     requires { ⌜ (n ≤ mostChildren) × Fits (now buffer) at (joined (childText line) (take n list)) ⌝ }
     ensures { λ r. ⌜ Put (now (buffer .entry)) at (joined (childText line) (take n list)) (now (buffer .exit)) r ⌝ }
 {
@@ -86,13 +80,7 @@ fn put_head(buffer: &mut [u8], at: usize, line: u64, phase: Phase) -> usize
 }
 
 // Stores the count of a line's children and their records and returns the place behind them.
-fn put_tail(
-    buffer: &mut [u8],
-    at: usize,
-    line: u64,
-    list: [Child; CHILDREN],
-    n: usize,
-) -> usize
+fn put_tail(buffer: &mut [u8], at: usize, line: u64, list: [Child; CHILDREN], n: usize) -> usize
     requires { ⌜ (n ≤ mostChildren) × Fits (now buffer) at (tailText line (take n list)) ⌝ }
     ensures { λ r. ⌜ Put (now (buffer .entry)) at (tailText line (take n list)) (now (buffer .exit)) r ⌝ }
 {

@@ -1,51 +1,58 @@
+-- `listing::put_children` meets its contract. The loop's invariant: the records of the children that are left make the whole.
+use Prim.Native.Nat.{_-_, _≤_}
+use mathlib.Core.Path.{_≡_}
+use native.Mathlib.Omega.{arith}
+use lib.ListN.{length, take, drop}
 use borrow.Author.Needs.{needs}
+use Rattle.octets.specs.Row.{joined}
+use Rattle.rules.specs.Listing.{childText}
+use Rattle.listing.proofs.Puts.{Left, left-all, left-done, left-fits, left-less}
+use Rattle.listing.proofs.Texts.{next-child, no-child}
 use Rattle.listing.proofs.put_children.Statement.{statement}
 use Rattle.listing.proofs.put_children.Tie as tie
-use Rattle.listing.proofs.put_children.Reads as reads
-use Rattle.listing.proofs.put_children.Lts as lts
-use Rattle.listing.proofs.put_child.Reads as put-child-reads
 
 abbrev Inv-loop : tie.InvT-loop
-Inv-loop buffer₀ at line n list place₀ i₀ buffer place i = ?
+Inv-loop buffer₀ at line n list place₀ i₀ buffer place i = (i ≤ n) × Left buffer place (joined (childText line) (drop i (take n list))) buffer₀ at (joined (childText line) (take n list))
 
 abbrev μ-loop : tie.MeasureT-loop
-μ-loop buffer₀ at line n list place₀ i₀ buffer place i = ?
+μ-loop buffer₀ at line n list place₀ i₀ buffer place i = n - i
 
--- src/lib.rt:70:5
 loop-holds : tie.Need-loop-holds Inv-loop μ-loop
-loop-holds c = search needs
+loop-holds c = (search needs, left-all _ _ _)
 
--- src/lib.rt:71:21
 mul-child : tie.Need-mul-child Inv-loop μ-loop
 mul-child c = search needs
 
--- src/lib.rt:71:21
 array-copy-out-child : tie.Need-array-copy-out-child Inv-loop μ-loop
 array-copy-out-child c = search needs
 
--- src/lib.rt:72:9
 put-child-requires : tie.Need-put-child-requires Inv-loop μ-loop
-put-child-requires c κs = search needs
+put-child-requires c κs = let at-loop = c .before .before .before .loop in
+    let start = c .before .before .before .before .before in
+    let sized : length (start .args .t4) ≡ 8 = search needs in
+    left-fits (at-loop .inv .1) _ (next-child (start .args .line) (start .args .t4) (start .args .n) (at-loop .i) (omega arith) (c .before .before .loop-test .taken)) (start .pre .1)
 
--- src/lib.rt:73:9
 add-i : tie.Need-add-i Inv-loop μ-loop
 add-i c = search needs
 
--- src/lib.rt:70:5
 loop-less : tie.Need-loop-less Inv-loop μ-loop
 loop-less c = search needs
 
--- src/lib.rt:70:5
 loop-again : tie.Need-loop-again Inv-loop μ-loop
-loop-again c = ?
+loop-again c = let stored = c .before .before in
+    let at-loop = stored .before .before .before .before .loop in
+    let a = stored .before .before .before .before .before .before .args in
+    let sized : length (a .t4) ≡ 8 = search needs in
+    (search needs, left-less (at-loop .inv .1) (next-child (a .line) (a .t4) (a .n) (at-loop .i) (omega arith) (stored .before .before .before .loop-test .taken)) (stored .put-child .ensures))
 
--- src/lib.rt:58:1
 same-length : tie.Need-same-length Inv-loop μ-loop
-same-length c = search needs
+same-length c = c .before .loop .inv .1 .size
 
--- src/lib.rt:58:1
 returns : tie.Need-returns Inv-loop μ-loop
-returns c = ?
+returns c = let at-loop = c .before .loop in
+    let a = c .before .before .before .args in
+    let sized : length (a .t4) ≡ 8 = search needs in
+    left-done (at-loop .inv .1) (no-child (a .line) (a .t4) (a .n) (at-loop .i) (omega arith) (omega arith))
 
 pub put-children-spec : {M : Type 1} → statement M
 put-children-spec =

@@ -1,26 +1,32 @@
+-- `listing::put_line` meets its contract: the children stand behind the line.
+use mathlib.Core.Path.{sym}
 use borrow.Author.Needs.{needs}
+use Rattle.record.specs.Line.{lineOf}
+use Rattle.listing.proofs.Puts.{and-then, fits-as, fits-behind, fits-first, put-as}
+use Rattle.listing.proofs.Texts.{line-parts}
 use Rattle.listing.proofs.put_line.Statement.{statement}
 use Rattle.listing.proofs.put_line.Tie as tie
-use Rattle.listing.proofs.put_line.Reads as reads
-use Rattle.listing.proofs.put_line.Lts as lts
-use Rattle.listing.proofs.put_head.Reads as put-head-reads
-use Rattle.listing.proofs.put_tail.Reads as put-tail-reads
 
--- src/lib.rt:110:9
 put-head-requires : tie.Need-put-head-requires
-put-head-requires c κs = search needs
+unfolding lineOf
+put-head-requires c κs = let start = c .before .before .before in
+    fits-first _ (fits-as (line-parts (start .args .n) (lineOf (start .args .line))) (start .pre .1))
 
--- src/lib.rt:111:5
 put-tail-requires : tie.Need-put-tail-requires
-put-tail-requires c κs = search needs
+unfolding lineOf
+put-tail-requires c κs = let head = c .before .before .before in
+    let start = head .before .before .before .before in
+    (start .pre .0, fits-behind (head .put-head .ensures) (fits-as (line-parts (start .args .n) (lineOf (start .args .line))) (start .pre .1)))
 
--- src/lib.rt:104:1
 same-length : tie.Need-same-length
 same-length c = search needs
 
--- src/lib.rt:104:1
 returns : tie.Need-returns
-returns c = ?
+unfolding lineOf
+returns c = let tail = c .before .before in
+    let head = tail .before .before .before .before in
+    let a = head .before .before .before .before .args in
+    put-as (sym (line-parts (a .n) (lineOf (a .line)))) (and-then (head .put-head .ensures) (tail .put-tail .ensures))
 
 pub put-line-spec : {M : Type 1} → statement M
 put-line-spec = tie.close (tie.spec put-head-requires put-tail-requires same-length returns)

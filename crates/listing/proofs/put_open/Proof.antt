@@ -1,40 +1,51 @@
+-- `listing::put_open` meets its contract: nothing is stored where the pair has no record.
+use mathlib.Core.Path.{sym}
+use native.Mathlib.Omega.{arith}
 use borrow.Author.Needs.{needs}
+use Rattle.table.proofs.Puts.{table-length}
+use Rattle.listing.proofs.Lines.{is-open, is-record, none-open}
+use Rattle.listing.proofs.Puts.{fits-as, put-as, put-none}
 use Rattle.listing.proofs.put_open.Statement.{statement}
 use Rattle.listing.proofs.put_open.Tie as tie
-use Rattle.listing.proofs.put_open.Reads as reads
-use Rattle.listing.proofs.put_open.Lts as lts
-use Rattle.listing.proofs.pair_of.Reads as pair-of-reads
-use Rattle.listing.proofs.put_line.Reads as put-line-reads
-use Rattle.table.proofs.read_slot.Reads as read-slot-reads
-use Rattle.table.proofs.record_of.Reads as record-of-reads
 
--- src/lib.rt:119:30
 pair-of-requires : tie.Need-pair-of-requires
 pair-of-requires c κs = search needs
 
--- src/lib.rt:119:9
 record-of-requires : tie.Need-record-of-requires
-record-of-requires c κs = search needs
+record-of-requires c κs = let start = c .before .before .before in
+    omega (arith, table-length (start .args .table .now) (start .pre .0))
 
--- src/lib.rt:121:9
 returns : tie.Need-returns
-returns c = ?
+returns c = let found = c .before in
+    let number = found .before in
+    let a = number .before .before .before .args in
+    put-as (sym (none-open (a .table .now) (a .tenant) (a .line) (number .pair-of .ensures) (found .record-of .ensures .0) (c .if1 .taken))) (put-none _ _)
 
--- src/lib.rt:123:32
 read-slot-requires : tie.Need-read-slot-requires
-read-slot-requires c κs = search needs
+read-slot-requires c κs = let found = c .before .before in
+    let number = found .before in
+    let start = number .before .before .before in
+    let a = start .args in
+    let within = c .before .if1 .left in
+    (omega (arith, table-length (a .table .now) (start .pre .0)), is-record (a .table .now) (a .tenant) (a .line) (number .pair-of .ensures) (found .record-of .ensures .0) within (start .pre .0))
 
--- src/lib.rt:123:5
 put-line-requires : tie.Need-put-line-requires
-put-line-requires c κs = search needs
+put-line-requires c κs = let found = c .before .before .before in
+    let number = found .before in
+    let start = number .before .before .before in
+    let a = start .args in
+    (c .read-slot .ensures .1 .1, fits-as (is-open (a .table .now) (a .tenant) (a .line) (number .pair-of .ensures) (found .record-of .ensures .0) (c .before .before .if1 .left) _ (c .read-slot .ensures .0)) (start .pre .3))
 
--- src/lib.rt:115:1
 same-length : tie.Need-same-length
 same-length c = search needs
 
--- src/lib.rt:115:1
 returns-2 : tie.Need-returns-2
-returns-2 c = ?
+returns-2 c = let stored = c .before .before in
+    let own = stored .before in
+    let found = own .before .before .before in
+    let number = found .before in
+    let a = number .before .before .before .args in
+    put-as (sym (is-open (a .table .now) (a .tenant) (a .line) (number .pair-of .ensures) (found .record-of .ensures .0) (own .before .before .if1 .left) _ (own .read-slot .ensures .0))) (stored .put-line .ensures)
 
 pub put-open-spec : {M : Type 1} → statement M
 put-open-spec =

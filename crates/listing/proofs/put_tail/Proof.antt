@@ -1,34 +1,48 @@
+-- `listing::put_tail` meets its contract: the children stand behind their count.
+use mathlib.Core.Path.{_≡_, sym}
+use native.Mathlib.Omega.{arith}
+use lib.ListN.{length, take}
+use lib.Seq.{length-take-le}
 use borrow.Author.Needs.{needs}
+use Rattle.rules.specs.Listing.{newline, tab}
+use Rattle.listing.proofs.Puts.{and-then, fits-as, fits-behind, fits-first, put-as}
+use Rattle.listing.proofs.Texts.{tail-parts}
 use Rattle.listing.proofs.put_tail.Statement.{statement}
 use Rattle.listing.proofs.put_tail.Tie as tie
-use Rattle.listing.proofs.put_tail.Reads as reads
-use Rattle.listing.proofs.put_tail.Lts as lts
-use Rattle.listing.proofs.field.put_number.Reads as put-number-reads
-use Rattle.listing.proofs.put_children.Reads as put-children-reads
 
--- src/lib.rt:99:40
 slice-aggregate-put-number : tie.Need-slice-aggregate-put-number
 slice-aggregate-put-number c = search needs
 
--- src/lib.rt:99:57
 slice-aggregate-put-number-2 : tie.Need-slice-aggregate-put-number-2
 slice-aggregate-put-number-2 c = search needs
 
--- src/lib.rt:99:9
 put-number-requires : tie.Need-put-number-requires
-put-number-requires c κs = search needs
+unfolding tab newline
+put-number-requires c κs = let start = c .before .before .before .before in
+    let a = start .args in
+    let sized : length (a .list) ≡ 8 = search needs in
+    fits-first _ (fits-as (tail-parts (a .line) (take (a .n) (a .list)) (length-take-le (a .n) (a .list) (omega arith))) (start .pre .1))
 
--- src/lib.rt:100:5
 put-children-requires : tie.Need-put-children-requires
-put-children-requires c κs = search needs
+unfolding tab newline
+put-children-requires c κs = let count = c .before .before .before in
+    let start = count .before .before .before .before .before in
+    let a = start .args in
+    let sized : length (a .list) ≡ 8 = search needs in
+    (start .pre .0, fits-behind (count .put-number .ensures) (fits-as (tail-parts (a .line) (take (a .n) (a .list)) (length-take-le (a .n) (a .list) (omega arith))) (start .pre .1)))
 
--- src/lib.rt:89:1
 same-length : tie.Need-same-length
 same-length c = search needs
 
--- src/lib.rt:89:1
 returns : tie.Need-returns
-returns c = ?
+unfolding tab newline
+returns c = let each = c .before .before in
+    let count = each .before .before .before .before in
+    let start = count .before .before .before .before .before in
+    let a = start .args in
+    let good = start .good in
+    let sized : length (a .list) ≡ 8 = search needs in
+    put-as (sym (tail-parts (a .line) (take (a .n) (a .list)) (length-take-le (a .n) (a .list) (omega arith)))) (and-then (count .put-number .ensures) (each .put-children .ensures))
 
 pub put-tail-spec : {M : Type 1} → statement M
 put-tail-spec =
