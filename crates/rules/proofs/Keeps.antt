@@ -16,7 +16,6 @@ use Rattle.children.specs.Children.{hasSpi}
 use Rattle.config.specs.Settings.{configOf}
 use Rattle.eap.specs.Packet.{readPacket}
 use Rattle.lists.specs.Lists.{addressesIn, networksIn}
-use Rattle.phase.specs.Chosen.{chosen}
 use Rattle.phase.specs.Stage.{Stage, isIn, stageNumber}
 use Rattle.phase.specs.Stage as Stage
 use Rattle.phase.specs.declared.Phase.{Phase}

@@ -1,6 +1,6 @@
 -- `listing::list` meets its contract. The loop's invariant: the texts of the lines that are left make the whole.
-use Prim.Native.Nat.{ℕ, _-_, _≤_}
-use mathlib.Core.Path.{_≡_, ap, _∙_}
+use Prim.Native.Nat.{_-_, _≤_}
+use mathlib.Core.Path.{ap, _∙_}
 use native.Mathlib.Omega.{arith}
 use lib.ListN.{length}
 use borrow.Author.Needs.{needs}
@@ -31,14 +31,14 @@ loop-holds c = (search needs, left-all _ _ _)
 
 put-open-requires : tie.Need-put-open-requires Inv-loop μ-loop
 unfolding listingOf
-put-open-requires c κs = let at-loop = c .before .before .loop in
+put-open-requires c κs =
+    let at-loop = c .before .before .loop in
     let cleared = c .before .before .before .before .before in
     let start = cleared .before .before .before .before in
     let a = start .args in
     let size = ap length (cleared .zero .ensures) ∙ length-zeros (length (a .buffer .now)) in
     let short = listing-short (a .table .now) (start .pre .0) (a .tenant) in
-    let taken = c .before .loop-test .taken in
-    (start .pre .0, start .pre .1, omega arith, left-fits (at-loop .inv .1) _ (next-line (ownLine (a .tenant) (slotsOf (a .table .now))) (at-loop .line) 4 taken) (record { room = omega arith }))
+    (start .pre .0, start .pre .1, omega arith, left-fits (at-loop .inv .1) _ (next-line (ownLine (a .tenant) (slotsOf (a .table .now))) (at-loop .line) 4 (omega arith)) (record { room = omega arith }))
 
 add-line : tie.Need-add-line Inv-loop μ-loop
 add-line c = search needs
@@ -47,17 +47,19 @@ loop-less : tie.Need-loop-less Inv-loop μ-loop
 loop-less c = search needs
 
 loop-again : tie.Need-loop-again Inv-loop μ-loop
-loop-again c = let stored = c .before .before in
+loop-again c =
+    let stored = c .before .before in
     let at-loop = stored .before .before .before .loop in
     let a = stored .before .before .before .before .before .before .before .before .before .before .args in
-    (search needs, left-less (at-loop .inv .1) (next-line (ownLine (a .tenant) (slotsOf (a .table .now))) (at-loop .line) 4 (stored .before .before .loop-test .taken)) (stored .put-open .ensures))
+    (search needs, left-less (at-loop .inv .1) (next-line (ownLine (a .tenant) (slotsOf (a .table .now))) (at-loop .line) 4 (omega arith)) (stored .put-open .ensures))
 
 same-length : tie.Need-same-length Inv-loop μ-loop
 same-length c = c .before .loop .inv .1 .size ∙ ap length (c .before .before .before .before .zero .ensures) ∙ length-zeros _
 
 returns : tie.Need-returns Inv-loop μ-loop
 unfolding listingOf
-returns c = let at-loop = c .before .loop in
+returns c =
+    let at-loop = c .before .loop in
     let cleared = c .before .before .before .before in
     let start = cleared .before .before .before .before in
     let a = start .args in

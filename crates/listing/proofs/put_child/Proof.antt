@@ -16,12 +16,14 @@ slice-aggregate-put-number-2 c = search needs
 
 put-number-requires : tie.Need-put-number-requires
 unfolding text tab newline
-put-number-requires c κs = let start = c .before .before .before .before in
+put-number-requires c κs =
+    let start = c .before .before .before .before in
     fits-first _ (fits-first _ (fits-as (child-parts (start .args .line) (start .args .child)) (start .pre)))
 
 put-hex-requires : tie.Need-put-hex-requires
 unfolding text tab newline
-put-hex-requires c κs = let label = c .before .before .before in
+put-hex-requires c κs =
+    let label = c .before .before .before in
     let start = label .before .before .before .before .before in
     fits-behind (label .put-number .ensures) (fits-first _ (fits-as (child-parts (start .args .line) (start .args .child)) (start .pre)))
 
@@ -33,7 +35,8 @@ slice-aggregate-put-number-4 c = search needs
 
 put-number-requires-2 : tie.Need-put-number-requires-2
 unfolding text tab newline
-put-number-requires-2 c κs = let spi = c .before .before .before .before .before in
+put-number-requires-2 c κs =
+    let spi = c .before .before .before .before .before in
     let label = spi .before .before .before .before in
     let start = label .before .before .before .before .before in
     fits-behind (and-then (label .put-number .ensures) (spi .put-hex .ensures)) (fits-as (child-parts (start .args .line) (start .args .child)) (start .pre))
@@ -43,7 +46,8 @@ same-length c = search needs
 
 returns : tie.Need-returns
 unfolding text tab newline
-returns c = let session = c .before .before in
+returns c =
+    let session = c .before .before in
     let spi = session .before .before .before .before .before .before in
     let label = spi .before .before .before .before in
     let a = label .before .before .before .before .before .args in

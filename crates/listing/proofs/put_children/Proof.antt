@@ -27,7 +27,8 @@ array-copy-out-child : tie.Need-array-copy-out-child Inv-loop μ-loop
 array-copy-out-child c = search needs
 
 put-child-requires : tie.Need-put-child-requires Inv-loop μ-loop
-put-child-requires c κs = let at-loop = c .before .before .before .loop in
+put-child-requires c κs =
+    let at-loop = c .before .before .before .loop in
     let start = c .before .before .before .before .before in
     let sized : length (start .args .t4) ≡ 8 = search needs in
     left-fits (at-loop .inv .1) _ (next-child (start .args .line) (start .args .t4) (start .args .n) (at-loop .i) (omega arith) (c .before .before .loop-test .taken)) (start .pre .1)
@@ -39,7 +40,8 @@ loop-less : tie.Need-loop-less Inv-loop μ-loop
 loop-less c = search needs
 
 loop-again : tie.Need-loop-again Inv-loop μ-loop
-loop-again c = let stored = c .before .before in
+loop-again c =
+    let stored = c .before .before in
     let at-loop = stored .before .before .before .before .loop in
     let a = stored .before .before .before .before .before .before .args in
     let sized : length (a .t4) ≡ 8 = search needs in
@@ -49,7 +51,8 @@ same-length : tie.Need-same-length Inv-loop μ-loop
 same-length c = c .before .loop .inv .1 .size
 
 returns : tie.Need-returns Inv-loop μ-loop
-returns c = let at-loop = c .before .loop in
+returns c =
+    let at-loop = c .before .loop in
     let a = c .before .before .before .args in
     let sized : length (a .t4) ≡ 8 = search needs in
     left-done (at-loop .inv .1) (no-child (a .line) (a .t4) (a .n) (at-loop .i) (omega arith) (omega arith))

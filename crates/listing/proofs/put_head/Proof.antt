@@ -20,7 +20,8 @@ put-number-requires c κs = fits-first _ (fits-first _ (fits-first _ (c .before 
 
 put-word-requires : tie.Need-put-word-requires
 unfolding headText text tab
-put-word-requires c κs = let label = c .before .before .before in
+put-word-requires c κs =
+    let label = c .before .before .before in
     fits-behind (label .put-number .ensures) (fits-first _ (fits-first _ (label .before .before .before .before .before .pre)))
 
 slice-aggregate-put-text : tie.Need-slice-aggregate-put-text
@@ -28,7 +29,8 @@ slice-aggregate-put-text c = search needs
 
 put-text-requires : tie.Need-put-text-requires
 unfolding headText text tab
-put-text-requires c κs = let spelt = c .before .before .before .before in
+put-text-requires c κs =
+    let spelt = c .before .before .before .before in
     let label = spelt .before .before .before .before in
     fits-behind (and-then (label .put-number .ensures) (spelt .put-word .ensures)) (fits-first _ (label .before .before .before .before .before .pre))
 
@@ -37,7 +39,8 @@ chosen-requires c κs = search needs
 
 put-address-requires : tie.Need-put-address-requires
 unfolding headText text tab
-put-address-requires c κs = let parted = c .before .before .before .before in
+put-address-requires c κs =
+    let parted = c .before .before .before .before in
     let spelt = parted .before .before .before .before .before in
     let label = spelt .before .before .before .before in
     let before = and-then (and-then (label .put-number .ensures) (spelt .put-word .ensures)) (parted .put-text .ensures) in
@@ -48,7 +51,8 @@ same-length c = search needs
 
 returns : tie.Need-returns
 unfolding headText text tab
-returns c = let own = c .before .before in
+returns c =
+    let own = c .before .before in
     let parted = own .before .before .before .before .before in
     let spelt = parted .before .before .before .before .before in
     let label = spelt .before .before .before .before in

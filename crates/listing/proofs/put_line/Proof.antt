@@ -9,12 +9,14 @@ use Rattle.listing.proofs.put_line.Tie as tie
 
 put-head-requires : tie.Need-put-head-requires
 unfolding lineOf
-put-head-requires c κs = let start = c .before .before .before in
+put-head-requires c κs =
+    let start = c .before .before .before in
     fits-first _ (fits-as (line-parts (start .args .n) (lineOf (start .args .line))) (start .pre .1))
 
 put-tail-requires : tie.Need-put-tail-requires
 unfolding lineOf
-put-tail-requires c κs = let head = c .before .before .before in
+put-tail-requires c κs =
+    let head = c .before .before .before in
     let start = head .before .before .before .before in
     (start .pre .0, fits-behind (head .put-head .ensures) (fits-as (line-parts (start .args .n) (lineOf (start .args .line))) (start .pre .1)))
 
@@ -23,7 +25,8 @@ same-length c = search needs
 
 returns : tie.Need-returns
 unfolding lineOf
-returns c = let tail = c .before .before in
+returns c =
+    let tail = c .before .before in
     let head = tail .before .before .before .before in
     let a = head .before .before .before .before .args in
     put-as (sym (line-parts (a .n) (lineOf (a .line)))) (and-then (head .put-head .ensures) (tail .put-tail .ensures))

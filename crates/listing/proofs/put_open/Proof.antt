@@ -12,17 +12,20 @@ pair-of-requires : tie.Need-pair-of-requires
 pair-of-requires c κs = search needs
 
 record-of-requires : tie.Need-record-of-requires
-record-of-requires c κs = let start = c .before .before .before in
+record-of-requires c κs =
+    let start = c .before .before .before in
     omega (arith, table-length (start .args .table .now) (start .pre .0))
 
 returns : tie.Need-returns
-returns c = let found = c .before in
+returns c =
+    let found = c .before in
     let number = found .before in
     let a = number .before .before .before .args in
     put-as (sym (none-open (a .table .now) (a .tenant) (a .line) (number .pair-of .ensures) (found .record-of .ensures .0) (c .if1 .taken))) (put-none _ _)
 
 read-slot-requires : tie.Need-read-slot-requires
-read-slot-requires c κs = let found = c .before .before in
+read-slot-requires c κs =
+    let found = c .before .before in
     let number = found .before in
     let start = number .before .before .before in
     let a = start .args in
@@ -30,7 +33,8 @@ read-slot-requires c κs = let found = c .before .before in
     (omega (arith, table-length (a .table .now) (start .pre .0)), is-record (a .table .now) (a .tenant) (a .line) (number .pair-of .ensures) (found .record-of .ensures .0) within (start .pre .0))
 
 put-line-requires : tie.Need-put-line-requires
-put-line-requires c κs = let found = c .before .before .before in
+put-line-requires c κs =
+    let found = c .before .before .before in
     let number = found .before in
     let start = number .before .before .before in
     let a = start .args in
@@ -40,7 +44,8 @@ same-length : tie.Need-same-length
 same-length c = search needs
 
 returns-2 : tie.Need-returns-2
-returns-2 c = let stored = c .before .before in
+returns-2 c =
+    let stored = c .before .before in
     let own = stored .before in
     let found = own .before .before .before in
     let number = found .before in

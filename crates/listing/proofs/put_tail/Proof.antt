@@ -18,14 +18,16 @@ slice-aggregate-put-number-2 c = search needs
 
 put-number-requires : tie.Need-put-number-requires
 unfolding tab newline
-put-number-requires c κs = let start = c .before .before .before .before in
+put-number-requires c κs =
+    let start = c .before .before .before .before in
     let a = start .args in
     let sized : length (a .list) ≡ 8 = search needs in
     fits-first _ (fits-as (tail-parts (a .line) (take (a .n) (a .list)) (length-take-le (a .n) (a .list) (omega arith))) (start .pre .1))
 
 put-children-requires : tie.Need-put-children-requires
 unfolding tab newline
-put-children-requires c κs = let count = c .before .before .before in
+put-children-requires c κs =
+    let count = c .before .before .before in
     let start = count .before .before .before .before .before in
     let a = start .args in
     let sized : length (a .list) ≡ 8 = search needs in
@@ -36,7 +38,8 @@ same-length c = search needs
 
 returns : tie.Need-returns
 unfolding tab newline
-returns c = let each = c .before .before in
+returns c =
+    let each = c .before .before in
     let count = each .before .before .before .before in
     let start = count .before .before .before .before .before in
     let a = start .args in

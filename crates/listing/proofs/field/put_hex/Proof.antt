@@ -7,12 +7,14 @@ use Rattle.listing.proofs.field.put_hex.Statement.{statement}
 use Rattle.listing.proofs.field.put_hex.Tie as tie
 
 put-digits-requires : tie.Need-put-digits-requires
-put-digits-requires c κs = let a = c .before .before .args in
+put-digits-requires c κs =
+    let a = c .before .before .args in
     let long = length-digitText 16 (a .n) (a .x) in
     (omega arith, omega arith, omega arith)
 
 add-result : tie.Need-add-result
-add-result c = let a = c .before .before .before .before .before .args in
+add-result c =
+    let a = c .before .before .before .before .before .args in
     let long = length-digitText 16 (a .n) (a .x) in
     search needs
 

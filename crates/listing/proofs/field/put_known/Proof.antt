@@ -26,11 +26,13 @@ enum-known-address-2 : tie.Need-enum-known-address-2
 enum-known-address-2 c = search needs
 
 put-hex-requires-2 : tie.Need-put-hex-requires-2
-put-hex-requires-2 c κs = let known = c .before .before in
+put-hex-requires-2 c κs =
+    let known = c .before .before in
     fits-first _ (fits-as (ap spelt (known .address2 .given .1) ∙ halves-text _ _ (search needs)) (known .before .before .before .pre))
 
 put-hex-requires-3 : tie.Need-put-hex-requires-3
-put-hex-requires-3 c κs = let first = c .before .before .before in
+put-hex-requires-3 c κs =
+    let first = c .before .before .before in
     let known = first .before .before .before in
     fits-behind (first .put-hex2 .ensures) (fits-as (ap spelt (known .address2 .given .1) ∙ halves-text _ _ (search needs)) (known .before .before .before .pre))
 
@@ -45,7 +47,8 @@ same-length-2 : tie.Need-same-length-2
 same-length-2 c = search needs
 
 returns-2 : tie.Need-returns-2
-returns-2 c = let second = c .before .before in
+returns-2 c =
+    let second = c .before .before in
     let first = second .before .before .before .before in
     let known = first .before .before .before in
     put-as (sym (ap spelt (known .address2 .given .1) ∙ halves-text _ _ (search needs))) (and-then (first .put-hex2 .ensures) (second .put-hex3 .ensures))

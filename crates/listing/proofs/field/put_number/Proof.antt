@@ -10,12 +10,14 @@ put-text-requires : tie.Need-put-text-requires
 put-text-requires c κs = fits-first _ (fits-first _ (c .before .before .before .before .pre))
 
 put-decimal-requires : tie.Need-put-decimal-requires
-put-decimal-requires c κs = let text = c .before .before .before in
+put-decimal-requires c κs =
+    let text = c .before .before .before in
     let fits = fits-behind (text .put-text .ensures) (fits-first _ (text .before .before .before .before .before .pre)) in
     omega arith
 
 put-text-requires-2 : tie.Need-put-text-requires-2
-put-text-requires-2 c κs = let number = c .before .before .before in
+put-text-requires-2 c κs =
+    let number = c .before .before .before in
     let text = number .before .before .before .before in
     let start = text .before .before .before .before .before in
     fits-behind (and-then (text .put-text .ensures) (decimal-put (start .args .x) (number .put-decimal .ensures .0) (number .put-decimal .ensures .1))) (start .pre)
@@ -24,7 +26,8 @@ same-length : tie.Need-same-length
 same-length c = search needs
 
 returns : tie.Need-returns
-returns c = let last = c .before .before in
+returns c =
+    let last = c .before .before in
     let number = last .before .before .before .before in
     let text = number .before .before .before .before in
     let x = text .before .before .before .before .before .args .x in
