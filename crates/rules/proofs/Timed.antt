@@ -10,7 +10,6 @@ use borrow.Author.Tests.{eq-eqb, ltb-false}
 use Rattle.octets.specs.Refusal.{refusal}
 use Rattle.octets.proofs.Search.{or-left}
 use Rattle.address.specs.Address.{heldAddresses}
-use Rattle.address.specs.declared.Address.{Address}
 use Rattle.config.specs.Settings.{Settings, configOf}
 use Rattle.gateway.specs.Gateway.{choose}
 use Rattle.gateway.specs.declared.Found.{Found}

@@ -31,7 +31,6 @@ use Rattle.holds.specs.Holds as Holds
 use Rattle.children.specs.Children as Children
 use Rattle.children.specs.Laws as ChildLaws
 use Rattle.phase.specs.Chosen as Chosen
-use Rattle.phase.specs.Stage.{isIn}
 use Rattle.phase.specs.Stage as Stage
 use Rattle.table.specs.Slots as TableSlots
 use Rattle.table.specs.Table.{recordCount}

@@ -2,7 +2,7 @@
 use Prim.Native.Nat.{ℕ, suc, _-_}
 use mathlib.Core.Bool.{Bool, true, false}
 use mathlib.Core.List.{List, []}
-use mathlib.Core.Path.{_≡_, refl, sym, ap, _∙_, subst}
+use mathlib.Core.Path.{_≡_, refl, sym, ap, _∙_}
 use native.Mathlib.Omega.{arith}
 use lib.Dec.{ltb}
 use Rattle.octets.specs.Part.{padded, zeros}
@@ -15,7 +15,7 @@ use Rattle.rules.specs.Life.{Outcome, becomes, current, outcome}
 use Rattle.rules.specs.Refusals.{hasNoRoom, isAllowed, isHeldFull, isMalformed, isOutOfRange, isSpiTaken, refusalsOf}
 use Rattle.rules.specs.declared.Action.{Action}
 use Rattle.rules.specs.declared.Action.the-variants as Action
-use Rattle.step.specs.Step.{Effect, Gives, effect, effectIn, outcomeBy}
+use Rattle.step.specs.Step.{Gives, effect, effectIn, outcomeBy}
 use Rattle.step.specs.declared.Stepped.{Stepped}
 
 -- the number by the tests in rising order

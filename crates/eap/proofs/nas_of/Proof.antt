@@ -4,7 +4,6 @@ use mathlib.Core.List.{List, []}
 use mathlib.Core.Path.{_≡_, refl, sym, ap, _∙_}
 use lib.ListN.{length}
 use borrow.Author.Needs.{needs}
-use Rattle.octets.specs.Part.{part}
 use Rattle.eap.specs.Packet.{nasOf, nasLength}
 use Rattle.eap.specs.declared.Packet.{Packet}
 use Rattle.eap.proofs.Reading.{request-within, response-within}

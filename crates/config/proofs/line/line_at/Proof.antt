@@ -1,7 +1,6 @@
 -- `config::line::line_at` meets its contract: the place of the next newline parts the text.
 use mathlib.Core.Path.{ap, _∙_}
 use borrow.Author.Needs.{needs}
-use Rattle.octets.specs.Part.{part}
 use Rattle.entry.specs.Entry.{lineEntry}
 use Rattle.config.proofs.Texts.{at-end, unended, ended}
 use Rattle.config.proofs.line.line_at.Statement.{statement}
