@@ -1,0 +1,2 @@
+-- The laws that the proofs of IKE steps share.
+pub mod Onward
