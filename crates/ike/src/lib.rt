@@ -41,3 +41,43 @@ pub fn begin(line: Record, time: u64) -> Stepped
     };
     goes(found, Phase::Init(a), Action::SendInit)
 }
+
+// The init answer: IKE_AUTH is sent without AUTH.
+pub fn init_answer(line: Record, time: u64) -> Stepped
+    requires { ⌜ InArrays line ⌝ }
+    ensures { λ r. ⌜ effectIn r [] [] ≡ effect init time (lineOf line) ⌝ }
+    ensures { λ r. ⌜ InArrays (r .line) ⌝ }
+{
+    let found = current(line, time);
+    if is_late(time) {
+        return refused(found, 8);
+    }
+    let phase = found.phase;
+    let Phase::Init(a) = phase else {
+        return refused(found, 10);
+    };
+    goes(found, Phase::Auth(a), Action::SendAuthRequest)
+}
+
+// The final answer: the line is live where AUTH is good, and released where it is bad.
+pub fn final_answer(line: Record, time: u64, good: u64) -> Stepped
+    requires { ⌜ InArrays line ⌝ }
+    ensures { λ r. ⌜ effectIn r [] [] ≡ effect (final good) time (lineOf line) ⌝ }
+    ensures { λ r. ⌜ InArrays (r .line) ⌝ }
+{
+    let found = current(line, time);
+    if is_late(time) {
+        return refused(found, 8);
+    }
+    if 1 < good {
+        return refused(found, 8);
+    }
+    let phase = found.phase;
+    let Phase::Sure(a) = phase else {
+        return refused(found, 10);
+    };
+    if good == 1 {
+        return goes(found, Phase::Live(a), Action::Live);
+    }
+    goes(found, Phase::Idle, Action::Released(0))
+}
