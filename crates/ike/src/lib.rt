@@ -81,3 +81,64 @@ pub fn final_answer(line: Record, time: u64, good: u64) -> Stepped
     }
     goes(found, Phase::Idle, Action::Released(0))
 }
+
+// Whether a line authenticates itself: its phase is auth, eap or sure.
+pub(crate) fn is_underway(phase: Phase) -> bool
+    ensures { λ r. ⌜ r ≡ underway phase ⌝ }
+{
+    let n = number(phase);
+    (n == AUTH) | (n == EAP) | (n == SURE)
+}
+
+// 1 where leaving a phase ends an EAP session, else 0.
+pub(crate) fn ended(phase: Phase) -> u64
+    ensures { λ r. ⌜ r ≡ ended phase ⌝ }
+{
+    if number(phase) == EAP {
+        return 1;
+    }
+    0
+}
+
+// An error notify: the error is handed up.
+pub fn error(line: Record, time: u64, code: u64) -> Stepped
+    requires { ⌜ InArrays line ⌝ }
+    ensures { λ r. ⌜ effectIn r [] [] ≡ effect (error code) time (lineOf line) ⌝ }
+    ensures { λ r. ⌜ InArrays (r .line) ⌝ }
+{
+    let found = current(line, time);
+    if is_late(time) {
+        return refused(found, 8);
+    }
+    if code < 1 {
+        return refused(found, 8);
+    }
+    if MOST_ERROR < code {
+        return refused(found, 8);
+    }
+    let phase = found.phase;
+    if !is_underway(phase) {
+        return refused(found, 10);
+    }
+    goes(found, Phase::Idle, Action::ErrorUp(ended(phase), code))
+}
+
+// Giving up: the line is idle.
+pub fn give_up(line: Record, time: u64) -> Stepped
+    requires { ⌜ InArrays line ⌝ }
+    ensures { λ r. ⌜ effectIn r [] [] ≡ effect give-up time (lineOf line) ⌝ }
+    ensures { λ r. ⌜ InArrays (r .line) ⌝ }
+{
+    let found = current(line, time);
+    if is_late(time) {
+        return refused(found, 8);
+    }
+    let phase = found.phase;
+    if number(phase) == IDLE {
+        return refused(found, 10);
+    }
+    if number(phase) == LIVE {
+        return refused(found, 10);
+    }
+    goes(found, Phase::Idle, Action::Nothing)
+}
