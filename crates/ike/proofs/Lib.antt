@@ -1,2 +1,3 @@
 -- The laws that the proofs of IKE steps share.
+pub mod Holding
 pub mod Onward

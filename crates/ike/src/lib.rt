@@ -1,4 +1,5 @@
 // The IKE association of a line, step by step.
+pub mod congestion;
 
 use phase::AUTH;
 use phase::EAP;

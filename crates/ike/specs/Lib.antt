@@ -1,0 +1,2 @@
+-- What a line with more holds is.
+pub mod Held
