@@ -1,10 +1,23 @@
 // Congestion, and the hold that it sets.
+use crate::ended;
+use crate::is_underway;
 use address::Address;
 use address::End;
 use address::HOLDS;
 use address::Hold;
+use octets::number::MOST_OCTET;
+use phase::MaybeAddress;
+use phase::Phase;
+use phase::chosen;
 use record::Record;
+use rules::Action;
+use step::Stepped;
+use step::current;
+use step::goes;
+use step::is_late;
+use step::refused;
 use timer::Timer;
+ghost use mathlib.Core.Bool.{true};
 ghost use mathlib.Core.List.{[], _∷_, _++_};
 ghost use mathlib.Core.Path.{_≡_};
 ghost use Prim.Native.Nat.{_+_, _≤_, _<_};
@@ -12,8 +25,10 @@ ghost use lib.ListN.{length, take};
 ghost use Rattle.address.specs.Address.{mostHolds};
 ghost use Rattle.timer.specs.Timer.{timerOf};
 ghost use Rattle.record.specs.Line.{lineOf, InArrays};
-ghost use Rattle.rules.specs.Call.{lastTime};
+ghost use Rattle.record.specs.Sound.{lineSound};
+ghost use Rattle.rules.specs.Call.{congestion, lastTime};
 ghost use Rattle.rules.specs.Life.{timerHold};
+ghost use Rattle.step.specs.Step.{effect, effectIn};
 ghost use Rattle.ike.specs.Held.{moreHolds};
 
 // A list with one hold more, behind the first n, of which there are fewer than it has places.
@@ -71,4 +86,38 @@ fn held(line: Record, a: Address, octet: u8) -> Record
             },
         ),
     }
+}
+
+// Congestion: the line is released, and the chosen address is held by the timer.
+pub fn congestion(line: Record, time: u64, authenticated: u64, timer: u64) -> Stepped
+    requires { ⌜ InArrays line × (lineSound (lineOf line) ≡ true) ⌝ }
+    ensures { λ r. ⌜ effectIn r [] [] ≡ effect (congestion authenticated timer) time (lineOf line) ⌝ }
+    ensures { λ r. ⌜ InArrays (r .line) ⌝ }
+{
+    let found = current(line, time);
+    if is_late(time) {
+        return refused(found, 8);
+    }
+    if 1 < authenticated {
+        return refused(found, 8);
+    }
+    if MOST_OCTET < timer {
+        return refused(found, 8);
+    }
+    if authenticated != 1 {
+        return refused(found, 10);
+    }
+    let phase = found.phase;
+    if !is_underway(phase) {
+        return refused(found, 10);
+    }
+    // A line underway has a chosen address, so nothing is refused here.
+    let MaybeAddress::Is(a) = chosen(phase) else {
+        return refused(found, 10);
+    };
+    goes(
+        held(found, a, timer as u8),
+        Phase::Idle,
+        Action::Released(ended(phase)),
+    )
 }

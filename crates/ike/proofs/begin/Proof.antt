@@ -3,15 +3,15 @@ use mathlib.Core.Path.{refl, sym, ap, _∙_}
 use borrow.Author.Needs.{needs}
 use Rattle.octets.specs.Part.{padded, zeros}
 use Rattle.phase.specs.Chosen.{chosen}
+use Rattle.phase.specs.Stage as Stage
 use Rattle.phase.specs.declared.Phase.the-variants.{Init}
 use Rattle.phase.proofs.Stages.{other-stage, same-stage, tags}
-use Rattle.phase.specs.Stage as Stage
+use Rattle.record.specs.Line.{lineOf}
 use Rattle.rules.specs.Answer.{eventRoom}
 use Rattle.rules.specs.Call.{begin}
-use Rattle.record.specs.Line.{lineOf}
 use Rattle.rules.specs.Life.{goes, outcome}
-use Rattle.rules.specs.declared.Action.the-variants.{SendInit}
 use Rattle.rules.specs.Refusals.{hasNoRoom, isAllowed, isHeldFull, isMalformed, isOutOfRange, isSpiTaken}
+use Rattle.rules.specs.declared.Action.the-variants.{SendInit}
 use Rattle.step.proofs.Steps.{accepted, late, taken, turned-away, untimely}
 use Rattle.ike.proofs.Onward.{goes-on}
 use Rattle.ike.proofs.begin.Statement.{statement}

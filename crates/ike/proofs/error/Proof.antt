@@ -69,11 +69,12 @@ refused-requires-4 c κs = search needs
 returns-4 : tie.Need-returns-4
 unfolding eventRoom isAllowed isMalformed isOutOfRange lineOf zeros
 returns-4 c =
-    let start = c .before .before .before .before .before .before .before .before .args in
-    let found = c .before .before .before .before .before .before .before .current in
-    let timely = sym (c .before .before .before .before .before .before .is-late .ensures) ∙ c .before .before .before .before .before .if1 .left in
+    let tested = c .before .before .before in
+    let start = tested .before .before .before .before .before .args in
+    let found = tested .before .before .before .before .current in
+    let timely = sym (tested .before .before .before .is-late .ensures) ∙ tested .before .before .if1 .left in
     let code = start .code in
-    let fits = or-both (ltb code 1) (ltb mostError code) (le-ltb code 1 (c .before .before .before .before .if2 .left)) (le-ltb mostError code (c .before .before .before .if3 .left)) in
+    let fits = or-both (ltb code 1) (ltb mostError code) (le-ltb code 1 (tested .before .if2 .left)) (le-ltb mostError code (tested .if3 .left)) in
     let going = c .before .before .is-underway in
     let other = sym (going .ensures) ∙ not-true (going .result) (c .before .if4 .taken) in
     let gives = c .refused4 .ensures in
@@ -88,11 +89,12 @@ goes-requires c κs = search needs
 returns-5 : tie.Need-returns-5
 unfolding eventRoom goes hasNoRoom isAllowed isHeldFull isMalformed isOutOfRange isSpiTaken lineOf outcome padded zeros
 returns-5 c =
-    let start = c .before .before .before .before .before .before .before .before .before .args in
-    let found = c .before .before .before .before .before .before .before .before .current in
-    let timely = sym (c .before .before .before .before .before .before .before .is-late .ensures) ∙ c .before .before .before .before .before .before .if1 .left in
+    let tested = c .before .before .before .before in
+    let start = tested .before .before .before .before .before .args in
+    let found = tested .before .before .before .before .current in
+    let timely = sym (tested .before .before .before .is-late .ensures) ∙ tested .before .before .if1 .left in
     let code = start .code in
-    let fits = or-both (ltb code 1) (ltb mostError code) (le-ltb code 1 (c .before .before .before .before .before .if2 .left)) (le-ltb mostError code (c .before .before .before .before .if3 .left)) in
+    let fits = or-both (ltb code 1) (ltb mostError code) (le-ltb code 1 (tested .before .if2 .left)) (le-ltb mostError code (tested .if3 .left)) in
     let going = c .before .before .before .is-underway in
     let is = sym (going .ensures) ∙ not-false (going .result) (c .before .before .if4 .left) in
     let gives = c .goes .ensures in (
