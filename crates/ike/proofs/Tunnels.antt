@@ -1,25 +1,23 @@
 -- The steps of a live line: by the tests, the refusal number; and the line with other children that goes into a phase.
-use Prim.Native.Nat.{ℕ, _+_, _≤_, _<_}
+use Prim.Native.Nat.{ℕ, _+_, _<_}
 use mathlib.Core.Bool.{Bool, true, false}
 use mathlib.Core.List.{List, [], _∷_, _++_, map}
 use mathlib.Core.Path.{_≡_, refl, sym, ap, _∙_, subst}
-use native.Mathlib.Numerals.{add-one}
 use native.Mathlib.Omega.{arith}
-use lib.Dec.{leb}
 use lib.ListN.{length, set, take, length-map}
-use lib.Seq.{length-take-le, take-suc-set}
+use lib.Seq.{length-take-le}
 use mir.Val.{Val}
 use denote.Laws.{Is}
 use denote.Struct.Declared.{row}
-use borrow.Author.Tests.{le-leb, lt-leb}
 use Rattle.octets.specs.Refusal.{refusal}
 use Rattle.octets.proofs.Search.{and-false, and-true}
+use Rattle.octets.proofs.Sublists.{stored-behind}
 use Rattle.children.specs.Children.{hasSpi, mostChildren}
 use Rattle.children.specs.declared.Child.{Child}
 use Rattle.phase.specs.Stage.{isIn}
 use Rattle.phase.specs.Stage as Stage
 use Rattle.phase.specs.declared.Phase.{Phase}
-use Rattle.record.specs.Line.{Line}
+use Rattle.record.specs.Line.{Line, lineOf, InArrays}
 use Rattle.record.specs.declared.Record.{Record}
 use Rattle.record.proofs.Record.{the-type}
 use Rattle.rules.specs.Call.{child-deleted}
@@ -55,19 +53,18 @@ gone r x y p action cs ds e same g = subst (λ (z : Line). Gives r 0 (inPhase z 
 unmapped : (A B : Type 0) (f : A → B) (l : List A) (n : ℕ) → length (map f l) ≡ n → length l ≡ n
 unmapped A B f l n e = sym (length-map l f) ∙ e
 
--- the children of a record that the code holds lie in an array of eight
-pub children-sized : (x : Record) (vs : List Val) → Is (row the-type) x vs → length (x .children) ≡ mostChildren
-children-sized x vs ok = search (unmapped, ok)
+-- a record that the code holds has room for eight children
+module _ (x : Record) (vs : List Val) (held : Is (row the-type) x vs) where
+  sized : length (x .children) ≡ mostChildren
+  sized = search (unmapped, held)
 
--- the first n elements of a list
-module _ {A : Type 0} (l : List A) (n m : ℕ) (sized : length l ≡ m) where
-  pub all-taken : n ≤ m → m ≤ n → leb m (length (take n l)) ≡ true
-  all-taken h k = le-leb m (length (take n l)) (omega (arith, length-take-le n l (omega arith)))
+  -- its line has as many children as the count says
+  pub child-count : InArrays x → length (lineOf x .children) ≡ x .«child_count»
+  unfolding lineOf
+  child-count h = length-take-le (x .«child_count») (x .children) (omega (arith, sized))
 
-  module _ (h : n < m) where
-    pub not-all-taken : leb m (length (take n l)) ≡ false
-    not-all-taken = lt-leb m (length (take n l)) (omega (arith, length-take-le n l (omega arith)))
-
-    -- an element stored behind them
-    pub stored-behind : (x : A) → take (n + 1) (set l n x) ≡ take n l ++ x ∷ []
-    stored-behind x = ap (λ (k : ℕ). take k (set l n x)) (add-one n) ∙ take-suc-set l n x (omega arith)
+  -- a child stored behind them
+  pub child-behind : (child : Child) → x .«child_count» < mostChildren
+      → take (x .«child_count» + 1) (set (x .children) (x .«child_count») child) ≡ lineOf x .children ++ child ∷ []
+  unfolding lineOf
+  child-behind child h = stored-behind (x .children) (x .«child_count») child (omega (arith, sized))

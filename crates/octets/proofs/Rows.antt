@@ -8,12 +8,13 @@ use native.Mathlib.Nat.{add-zero, add-suc, suc-add, zero-add, add-comm, mul-zero
 use native.Mathlib.Numerals.{add-one}
 use native.Mathlib.Omega.{arith}
 use lib.ListN.{length, getD, set, take, drop, replicate, length-append, drop-of-length-le}
-use lib.Seq.{drop-cons, getD-take, length-take-le, take-suc, take-suc-set}
+use lib.Seq.{drop-cons, getD-take, length-take-le, take-suc}
 use Rattle.octets.specs.Part.{Wrote}
 use Rattle.octets.specs.Search.{allOf, anyOf, distinct}
 use Rattle.octets.specs.Row.{row, place, first, joined}
 use Rattle.octets.proofs.Parts.{then}
 use Rattle.octets.proofs.Search.{and-true}
+use Rattle.octets.proofs.Sublists.{stored-behind}
 
 module _ {A : Type 0} (f : ℕ → A) where
   -- what is left of a row is a row
@@ -144,7 +145,7 @@ module _ {A : Type 0} (f : ℕ → A) where
   -- a list that holds the first i values of a row, and the next one stored behind them
   pub row-stored : (l : List A) (i : ℕ) (v : A) → i < length l → take i l ≡ row f 0 i → v ≡ f i → take (i + 1) (set l i v) ≡ row f 0 (i + 1)
   row-stored l i v h e q =
-      ap (λ (k : ℕ). take k (set l i v)) (add-one i) ∙ take-suc-set l i v h ∙ ap₂ (λ (m : List A) (x : A). m ++ x ∷ []) e (q ∙ ap f (sym (zero-add i)))
+      stored-behind l i v h ∙ ap₂ (λ (m : List A) (x : A). m ++ x ∷ []) e (q ∙ ap f (sym (zero-add i)))
       ∙ sym (row-last 0 i) ∙ ap (row f 0) (sym (add-one i))
 
 pub joined-append : {A : Type 0} (g : A → List ℕ) (l m : List A) → joined g (l ++ m) ≡ joined g l ++ joined g m

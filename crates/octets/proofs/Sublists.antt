@@ -84,6 +84,10 @@ module _ {A : Type 0} where
     only-next : (l : List A) (i : ℕ) (d : A) → i < length l → only p (take (i + 1) l) ≡ only p (take i l) ++ keep (p (getD l i d)) (getD l i d) []
     only-next l i d h = ap (λ (k : ℕ). only p (take k l)) (add-one i) ∙ ap (only p) (take-suc l i d h) ∙ only-last (take i l) (getD l i d)
 
+  -- an element stored behind the first n
+  pub stored-behind : (l : List A) (n : ℕ) (y : A) → n < length l → take (n + 1) (set l n y) ≡ take n l ++ y ∷ []
+  stored-behind l n y h = ap (λ (k : ℕ). take k (set l n y)) (add-one n) ∙ take-suc-set l n y h
+
   -- one element more at the end
   pub all-last : (q : A → Bool) (l : List A) (y : A) → allOf q l ≡ true → q y ≡ true → allOf q (l ++ y ∷ []) ≡ true
   unfolding allOf
@@ -162,7 +166,7 @@ module _ {A : Type 0} {p : A → Bool} {l : List A} where
         record {
           few = omega arith;
           long = ap length stored ∙ length-set kept count x ∙ k .long;
-          front = ap₂ take (more ∙ add-one count) stored ∙ take-suc-set kept count x room
+          front = ap₂ take more stored ∙ stored-behind kept count x room
               ∙ ap₂ (λ (m : List A) (t : Bool). m ++ keep t x []) (k .front) (sym passes) ∙ sym (only-next p l i d inside);
         }
 

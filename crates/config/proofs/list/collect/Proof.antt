@@ -1,16 +1,16 @@
 -- `config::list::collect` meets its contract. The loop's invariant: the entries collected and those that are left make the whole, and no PLMN
 -- that is collected stands twice.
-use Prim.Native.Nat.{ℕ, _+_, _-_, _≤_, _<_}
+use Prim.Native.Nat.{ℕ, _-_, _≤_, _<_}
 use mathlib.Core.Bool.{true}
-use mathlib.Core.List.{List, [], _∷_, _++_, map}
+use mathlib.Core.List.{List, _++_, map}
 use mathlib.Core.Path.{_≡_, refl, sym, ap, _∙_, subst}
-use native.Mathlib.Numerals.{add-one}
 use native.Mathlib.Omega.{arith}
-use lib.ListN.{length, take, set, length-set}
-use lib.Seq.{length-take-le, take-suc-set}
+use lib.ListN.{length, take, length-set}
+use lib.Seq.{length-take-le}
 use denote.Ref.{now}
 use borrow.Author.Needs.{needs}
 use Rattle.octets.specs.Search.{distinct}
+use Rattle.octets.proofs.Sublists.{stored-behind}
 use Rattle.entry.specs.declared.field.Preferred.{Preferred}
 use Rattle.network.specs.Plmn.{samePlmn}
 use Rattle.config.specs.Lines.{entriesFrom}
@@ -36,10 +36,6 @@ sized l n h e = length-take-le n l (omega arith)
 
 next : (n : ℕ) → n ≤ mostListed → (n ≡ mostListed → ⊥) → n < mostListed
 next n h k = omega arith
-
--- an entry stored behind those collected is collected
-snoc : (l : List Preferred) (n : ℕ) (p : Preferred) → length l ≡ mostListed → n < mostListed → take (n + 1) (set l n p) ≡ take n l ++ p ∷ []
-snoc l n p e h = ap (λ (k : ℕ). take k (set l n p)) (add-one n) ∙ take-suc-set l n p (omega arith)
 
 falls : (at next n : ℕ) → at < next → next ≤ n → n - next < n - at
 falls at next n h k = omega arith
@@ -126,7 +122,7 @@ loop-again c =
     let d = take (at-loop .count) (at-loop .list) in
     let p = c .before .before .before .before .p .given .0 .0 in
     let Y = section (asListed (a .kind)) (entriesFrom (now (a .text)) (c .before .before .before .before .p .given .0 .1 .0)) in
-    let longer = snoc (at-loop .list) (at-loop .count) p (at-loop .inv .2) room in (
+    let longer = stored-behind (at-loop .list) (at-loop .count) p (omega arith) in (
       one .3,
       omega arith,
       length-set (at-loop .list) (at-loop .count) p ∙ at-loop .inv .2,

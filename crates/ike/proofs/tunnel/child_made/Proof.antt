@@ -1,9 +1,9 @@
 -- `ike::tunnel::child_made` meets its contract: only a live line on which the SPI does not stand and that has room has a child more.
 use mathlib.Core.Bool.{not}
-use mathlib.Core.Path.{_≡_, refl, sym, ap, _∙_}
-use lib.ListN.{length}
+use mathlib.Core.Path.{refl, sym, ap, _∙_}
+use lib.Dec.{leb}
 use borrow.Author.Needs.{needs}
-use borrow.Author.Tests.{not-false}
+use borrow.Author.Tests.{le-leb, lt-leb}
 use Rattle.octets.specs.Part.{padded, zeros}
 use Rattle.children.specs.Children.{mostChildren}
 use Rattle.phase.specs.Stage as Stage
@@ -14,7 +14,7 @@ use Rattle.rules.specs.Call.{child-made}
 use Rattle.rules.specs.Life.{inPhase, outcome, withChildren}
 use Rattle.rules.specs.Refusals.{hasNoRoom, isAllowed, isHeldFull, isMalformed, isOutOfRange, isSpiTaken}
 use Rattle.step.proofs.Steps.{accepted, late, no-room, spi-taken, taken, turned-away, unfit, untimely}
-use Rattle.ike.proofs.Tunnels.{all-taken, children-sized, gone, not-all-taken, stored-behind}
+use Rattle.ike.proofs.Tunnels.{child-behind, child-count, gone}
 use Rattle.ike.proofs.tunnel.child_made.Statement.{statement}
 use Rattle.ike.proofs.tunnel.child_made.Tie as tie
 
@@ -104,8 +104,7 @@ returns-5 c =
     let live = is-in Stage.live _ _ (c .before .before .before .before .before .before .number .ensures) (c .before .before .before .before .before .if3 .left) in
     let new = sym (c .before .before .before .has-spi .ensures) ∙ c .before .before .if4 .left in
     let x = found .result in
-    let sized = children-sized x _ (found .ok) in
-    let full = all-taken (x .children) (x .«child_count») mostChildren sized (found .ensures .1 .0 .1) (c .before .if5 .taken) in
+    let full = ap (leb mostChildren) (child-count x _ (found .ok) (found .ensures .1 .0)) ∙ le-leb _ _ (c .before .if5 .taken) in
     let gives = c .refused5 .ensures in
     (turned-away e (a .time) (a .line) (found .result) _ (found .ensures .0) 11 (no-room e _ _ timely is-child refl live new full) gives, gives .in-arrays)
 
@@ -135,11 +134,10 @@ returns-6 c =
     let live = is-in Stage.live _ _ (c .before .before .before .before .before .before .before .number .ensures) (c .before .before .before .before .before .before .if3 .left) in
     let new = sym (c .before .before .before .before .has-spi .ensures) ∙ c .before .before .before .if4 .left in
     let x = found .result in
-    let sized = children-sized x _ (found .ok) in
-    let room = not-all-taken (x .children) (x .«child_count») mostChildren sized (c .before .before .if5 .left) in
+    let room = ap (leb mostChildren) (child-count x _ (found .ok) (found .ensures .1 .0)) ∙ lt-leb _ _ (c .before .before .if5 .left) in
     let number = accepted e _ _ timely is-child refl live new room refl in
     let gives = c .goes .ensures in
-    let more = gone _ (lineOf x) _ _ _ _ _ (c .before .with-children .ensures .0) (stored-behind (x .children) (x .«child_count») mostChildren sized (c .before .before .if5 .left) _) gives in
+    let more = gone _ (lineOf x) _ _ _ _ _ (c .before .with-children .ensures .0) (child-behind x _ (found .ok) _ (c .before .before .if5 .left)) gives in
     (taken e (a .time) (a .line) x _ (found .ensures .0) number _ refl more, gives .in-arrays)
 
 pub child-made-spec : {M : Type 1} → statement M
