@@ -1,14 +1,12 @@
 -- More holds on a line that has room for them, and a line that congestion releases.
-use Prim.Native.Nat.{ℕ, _+_, _<_}
+use Prim.Native.Nat.{ℕ, _<_}
 use mathlib.Core.Bool.{true, false, _||_}
-use mathlib.Core.List.{List, [], _∷_, _++_, append-nil}
+use mathlib.Core.List.{List, [], append-nil}
 use mathlib.Core.Option.{some}
 use mathlib.Core.Path.{_≡_, refl, sym, ap, _∙_}
-use native.Mathlib.Numerals.{add-one}
 use native.Mathlib.Omega.{arith}
 use lib.Dec.{leb}
-use lib.ListN.{length, set, take, length-take}
-use lib.Seq.{take-suc-set}
+use lib.ListN.{length, take, length-take}
 use borrow.Author.Tests.{leb-true}
 use Rattle.octets.specs.Row.{isSome}
 use Rattle.octets.proofs.Search.{and-left, and-right, or-other}
@@ -33,10 +31,6 @@ module _ {A : Type 0} (l : List A) (n : ℕ) where
   -- the first n elements are fewer than all, so n is within the list
   pub part-ends : (m : ℕ) → length l ≡ m → length (take n l) < m → n < m
   part-ends m sized h = omega (arith, length-take n l)
-
-  -- an element stored behind the first n is the last of one more
-  pub last-stored : (x : A) → n < length l → take (n + 1) (set l n x) ≡ take n l ++ x ∷ []
-  last-stored x h = ap (λ (k : ℕ). take k (set l n x)) (add-one n) ∙ take-suc-set l n x h
 
 -- a line without more holds is the same
 pub no-more : (x : Line) → x ≡ moreHolds x []

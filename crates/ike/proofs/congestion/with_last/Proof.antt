@@ -3,8 +3,9 @@ use mathlib.Core.Path.{_≡_}
 use native.Mathlib.Omega.{arith}
 use lib.ListN.{length}
 use borrow.Author.Needs.{needs}
+use Rattle.octets.proofs.Sublists.{stored-behind}
 use Rattle.address.specs.Address.{mostHolds}
-use Rattle.ike.proofs.Holding.{last-stored, part-ends}
+use Rattle.ike.proofs.Holding.{part-ends}
 use Rattle.ike.proofs.congestion.with_last.Statement.{statement}
 use Rattle.ike.proofs.congestion.with_last.Tie as tie
 
@@ -22,7 +23,7 @@ returns : tie.Need-returns
 returns c =
     let sized : length (c .args .list) ≡ mostHolds = search needs in
     let room = part-ends (c .args .list) (c .args .n) mostHolds sized (c .pre) in
-    (last-stored (c .args .list) (c .args .n) (c .args .hold) (omega arith), room)
+    (stored-behind (c .args .list) (c .args .n) (c .args .hold) (omega arith), room)
 
 pub with-last-spec : {M : Type 1} → statement M
 with-last-spec = tie.close (tie.spec mul-longer array-set-from-longer returns)
