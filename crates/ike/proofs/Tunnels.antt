@@ -1,4 +1,4 @@
--- The steps of a live line: by the tests, the refusal number; and the line with other children that goes into a phase.
+-- What the steps on the children of a line have to show: the refusal number of a deletion, the children that stand and the line that has others.
 use Prim.Native.Nat.{ℕ, _+_, _<_}
 use mathlib.Core.Bool.{Bool, true, false}
 use mathlib.Core.List.{List, [], _∷_, _++_, map}
@@ -28,7 +28,7 @@ use Rattle.step.specs.Step.{Gives}
 use Rattle.step.specs.declared.Stepped.{Stepped}
 use Rattle.step.proofs.Steps.{accepted, untimely}
 
--- a child is deleted
+-- a deletion by its tests: 10 where the line is not live or the SPI does not stand on it
 module _ (spi : ℕ) (out : Bool) (x : Line) (timely : out ≡ false) where
   pub deleted-away : isIn Stage.live (x .phase) ≡ false → refusal (refusalsOf (child-deleted spi) out x) ≡ 10
   unfolding isOutOfRange isMalformed isAllowed

@@ -106,7 +106,7 @@ returns-5 c =
     let x = found .result in
     let full = ap (leb mostChildren) (child-count x _ (found .ok) (found .ensures .1 .0)) ∙ le-leb _ _ (c .before .if5 .taken) in
     let gives = c .refused5 .ensures in
-    (turned-away e (a .time) (a .line) (found .result) _ (found .ensures .0) 11 (no-room e _ _ timely is-child refl live new full) gives, gives .in-arrays)
+    (turned-away e (a .time) (a .line) x _ (found .ensures .0) 11 (no-room e _ _ timely is-child refl live new full) gives, gives .in-arrays)
 
 mul-children : tie.Need-mul-children
 mul-children c = search needs
