@@ -1,6 +1,6 @@
 -- Writing and reading NAS responses undo each other.
 use Prim.Native.Nat.{ℕ, _+_, _≤_}
-use mathlib.Core.Bool.{Bool, true, cond, not, _&&_}
+use mathlib.Core.Bool.{true, _&&_}
 use mathlib.Core.List.{List, _++_}
 use mathlib.Core.Path.{_≡_, refl, sym, ap, ap₂, _∙_}
 use native.Mathlib.Omega.{arith}
@@ -22,7 +22,7 @@ use Rattle.response.specs.Response.{header, block, response, writeRefusa
 use Rattle.eap.specs.declared.Packet.the-variants.{NasResponse}
 use Rattle.eap.proofs.Blocks.{within, nas-whole, parameters-are}
 use Rattle.eap.proofs.Headers.{by-vendor-type, nas-response}
-use Rattle.response.proofs.Writing.{Accepted, length-response, by-lent, by-parameters}
+use Rattle.response.proofs.Writing.{Accepted, InRange, length-response, not-out, by-parameters}
 use Rattle.eap.proofs.Reading.{Header, header-facts, nas-facts, parameters-facts, response-read}
 
 -- a response, field by field
@@ -138,11 +138,10 @@ module _ (l : List ℕ) (octets : allOf (below 256) l ≡ true) (r : isNasRespon
   not-refused : writeRefusal (identifier l) (part l 16 m) (part l (nasPlace l + 2) n) 3090 ≡ 0
   unfolding identifier
   not-refused =
-      by-lent (identifier l) (part l 16 m) (part l (nasPlace l + 2) n) 3090 (omega arith)
-      (omega (arith, field-below l octets 1 1 (omega (arith, h .enough))))
-      ∙ by-parameters (part l 16 m) (part l (nasPlace l + 2) n) (omega (arith, parameters-size, parameters .1))
-      (omega (arith, nas-size, nas .1)) (omega (arith, nas-size, nas .2))
-      ∙ ap (λ (t : Bool). cond (not t) 9 0) (parameters .2)
+      let fits : InRange (part l 16 m) (part l (nasPlace l + 2) n) =
+      record { parameters-short = rw parameters-size (parameters .1); nas-some = rw nas-size (nas .1); nas-short = rw nas-size (nas .2) } in
+      sym (by-parameters (identifier l) (part l 16 m) (part l (nasPlace l + 2) n) 3090 (omega arith) (omega (arith, field-below l octets 1 1 (omega (arith, h .enough))))
+      (not-out (part l 16 m) (part l (nasPlace l + 2) n) fits) (parameters .2))
 
   -- octets that follow one another in the packet
   follow : (at a b : ℕ) {vs ws : List ℕ} → vs ≡ part l at a → ws ≡ part l (at + a) b → vs ++ ws ≡ part l at (a + b)

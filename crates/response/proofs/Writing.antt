@@ -1,8 +1,8 @@
 -- When a response is written, how long it is, and what the buffer holds afterwards.
 use Prim.Native.Nat.{ℕ, _+_, _≤_, _<_}
-use mathlib.Core.Bool.{true, false, cond, not, _||_}
+use mathlib.Core.Bool.{Bool, true, false, cond, not, _||_}
 use mathlib.Core.List.{List, [], _∷_}
-use mathlib.Core.Path.{_≡_, refl, sym, _∙_}
+use mathlib.Core.Path.{_≡_, refl}
 use native.Mathlib.Omega.{arith}
 use lib.Dec.{ltb}
 use lib.ListN.{length, length-append}
@@ -13,7 +13,7 @@ use Rattle.octets.specs.Refusal.{_when_, refusal}
 use Rattle.octets.proofs.Refusals.{refusal-step}
 use Rattle.octets.proofs.Search.{or-left, or-right}
 use Rattle.parameters.specs.Parameters.{wellFormed}
-use Rattle.response.specs.Response.{header, block, response, lentOutOfRange, lentRefusal, outOfRange, writeRefusal, written}
+use Rattle.response.specs.Response.{header, block, response, lentOutOfRange, outOfRange, writeRefusal, written}
 
 pub length-block : (l : List ℕ) → length (block l) ≡ 2 + length l
 unfolding block be digits
@@ -53,59 +53,42 @@ module _ (p n : List ℕ) where
         nas-short = ltb-false _ _ (or-right (ltb 1024 (length p) || ltb (length n) 1) (ltb 2048 (length n)) e);
       }
 
-  pub lent-accepted : lentRefusal p n ≡ 0 → InRange p n × (wellFormed p ≡ true)
-  unfolding lentRefusal
-  lent-accepted e =
-      let first = refusal-step 7 (lentOutOfRange p n) ((9 when not (wellFormed p)) ∷ []) e in
-      let second = refusal-step 8 (not (wellFormed p)) [] (first .1) in
-      (in-range (first .0), not-false (wellFormed p) (second .0))
-
-  out-of-range : lentOutOfRange p n ≡ true → 8 ≡ lentRefusal p n
-  unfolding lentRefusal refusal
-  out-of-range e = simp e
-
-  pub parameters-long : 1024 < length p → 8 ≡ lentRefusal p n
+  pub not-out : InRange p n → lentOutOfRange p n ≡ false
   unfolding lentOutOfRange
-  parameters-long h = out-of-range (simp (lt-ltb 1024 (length p) h))
-
-  module _ (short : length p ≤ 1024) where
-    pub nas-empty : length n < 1 → 8 ≡ lentRefusal p n
-    unfolding lentOutOfRange
-    nas-empty h = out-of-range (simp (le-ltb 1024 (length p) short, lt-ltb (length n) 1 h))
-
-    module _ (some : 1 ≤ length n) where
-      pub nas-long : 2048 < length n → 8 ≡ lentRefusal p n
-      unfolding lentOutOfRange
-      nas-long h = out-of-range (simp (le-ltb 1024 (length p) short, le-ltb (length n) 1 some, lt-ltb 2048 (length n) h))
-
-      -- what is in range is refused by its AN-parameters alone
-      pub by-parameters : length n ≤ 2048 → lentRefusal p n ≡ cond (not (wellFormed p)) 9 0
-      unfolding lentRefusal refusal lentOutOfRange
-      by-parameters h = simp (le-ltb 1024 (length p) short, le-ltb (length n) 1 some, le-ltb 2048 (length n) h)
+  not-out fits = simp (le-ltb 1024 (length p) (fits .parameters-short), le-ltb (length n) 1 (fits .nas-some), le-ltb 2048 (length n) (fits .nas-short))
 
 module _ (i : ℕ) (p n : List ℕ) (room : ℕ) where
   pub too-short : room < 3090 → 3 ≡ writeRefusal i p n room
   unfolding writeRefusal refusal
   too-short h = simp (lt-ltb room 3090 h)
 
-  pub identifier-high : 3090 ≤ room → 255 < i → 8 ≡ writeRefusal i p n room
-  unfolding writeRefusal refusal outOfRange
-  identifier-high enough h = simp (le-ltb room 3090 enough, lt-ltb 255 i h)
+  module _ (enough : 3090 ≤ room) where
+    pub identifier-high : 255 < i → 8 ≡ writeRefusal i p n room
+    unfolding writeRefusal refusal outOfRange
+    identifier-high h = simp (le-ltb room 3090 enough, lt-ltb 255 i h)
 
-  -- with an identifier of one octet and room enough, what is lent is refused alone
-  pub by-lent : 3090 ≤ room → i ≤ 255 → writeRefusal i p n room ≡ lentRefusal p n
-  unfolding writeRefusal lentRefusal refusal outOfRange
-  by-lent enough octet = simp (le-ltb room 3090 enough, le-ltb 255 i octet)
+    module _ (octet : i ≤ 255) where
+      pub lent-out : lentOutOfRange p n ≡ true → 8 ≡ writeRefusal i p n room
+      unfolding writeRefusal refusal outOfRange
+      lent-out e = simp (le-ltb room 3090 enough, le-ltb 255 i octet, e)
+
+      -- what is in range is refused by its AN-parameters alone
+      pub by-parameters : lentOutOfRange p n ≡ false → {b : Bool} → wellFormed p ≡ b → cond (not b) 9 0 ≡ writeRefusal i p n room
+      unfolding writeRefusal refusal outOfRange
+      by-parameters e f = simp (le-ltb room 3090 enough, le-ltb 255 i octet, e, f)
 
   pub accepted : writeRefusal i p n room ≡ 0 → Accepted i p n room
   unfolding writeRefusal outOfRange
   accepted e =
       let first = refusal-step 2 (ltb room 3090) ((8 when outOfRange i p n) ∷ (9 when not (wellFormed p)) ∷ []) e in
       let second = refusal-step 7 (outOfRange i p n) ((9 when not (wellFormed p)) ∷ []) (first .1) in
-      let enough = ltb-false room 3090 (first .0) in
-      let octet = ltb-false 255 i (or-left (ltb 255 i) (lentOutOfRange p n) (second .0)) in
-      let lent = lent-accepted p n (sym (by-lent enough octet) ∙ e) in
-      record { enough = enough; octet = octet; fits = lent .0; ends = lent .1 }
+      let third = refusal-step 8 (not (wellFormed p)) [] (second .1) in
+      record {
+        enough = ltb-false room 3090 (first .0);
+        octet = ltb-false 255 i (or-left (ltb 255 i) (lentOutOfRange p n) (second .0));
+        fits = in-range p n (or-right (ltb 255 i) (lentOutOfRange p n) (second .0));
+        ends = not-false (wellFormed p) (third .0);
+      }
 
   pub response-fits : writeRefusal i p n room ≡ 0 → length (response i p n) ≤ room
   response-fits e =

@@ -32,10 +32,6 @@ response identifier parameters nas =
 unfoldable pub lentOutOfRange : List ℕ → List ℕ → Bool
 lentOutOfRange parameters nas = ltb mostParameters (length parameters) || ltb (length nas) 1 || ltb mostNas (length nas)
 
--- the refusal of lent AN-parameters and NAS, 0 where a response to them may be written
-unfoldable pub lentRefusal : List ℕ → List ℕ → ℕ
-lentRefusal parameters nas = refusal ((8 when lentOutOfRange parameters nas) ∷ (9 when not (wellFormed parameters)) ∷ [])
-
 -- an identifier of more than one octet, or lent octets out of their range
 unfoldable pub outOfRange : ℕ → List ℕ → List ℕ → Bool
 outOfRange identifier parameters nas = ltb mostOctet identifier || lentOutOfRange parameters nas

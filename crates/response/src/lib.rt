@@ -7,32 +7,20 @@ use octets::slice::zero;
 use parameters::MOST_PARAMETERS;
 use parameters::well_formed;
 ghost use mathlib.Core.Path.{_≡_};
-ghost use Prim.Native.Nat.{_+_, _≤_, _<_};
+ghost use Prim.Native.Nat.{_+_, _≤_};
 ghost use lib.ListN.{length};
 ghost use Rattle.octets.specs.Part.{Wrote, padded};
 ghost use Rattle.response.specs.Laws.{Laws};
-ghost use Rattle.response.specs.Response.{block, header, lentRefusal, response, writeRefusal, written};
+ghost use Rattle.response.specs.Response.{block, header, lentOutOfRange, response, writeRefusal, written};
 
 // The smallest buffer that a response is written to.
 pub const REPLY_ROOM: usize = 3090;
 
-// The refusal number for lent AN-parameters and NAS, 0 where there is none.
-pub fn lent_refusal(parameters: &[u8], nas: &[u8]) -> u64
-    ensures { λ r. ⌜ r ≡ lentRefusal (now (parameters .entry)) (now (nas .entry)) ⌝ }
+// Whether AN-parameters have over 1,024 octets, or NAS none or over 2,048.
+pub fn is_out_of_range(parameters: &[u8], nas: &[u8]) -> bool
+    ensures { λ r. ⌜ r ≡ lentOutOfRange (now (parameters .entry)) (now (nas .entry)) ⌝ }
 {
-    if MOST_PARAMETERS < parameters.len() {
-        return 8;
-    }
-    if nas.len() < 1 {
-        return 8;
-    }
-    if MOST_NAS < nas.len() {
-        return 8;
-    }
-    if !well_formed(parameters) {
-        return 9;
-    }
-    0
+    (MOST_PARAMETERS < parameters.len()) | (nas.len() < 1) | (MOST_NAS < nas.len())
 }
 
 // The refusal number for what is lent with an identifier and a buffer, 0 where there is none.
@@ -45,7 +33,13 @@ fn refusal(identifier: u64, parameters: &[u8], nas: &[u8], room: usize) -> u64
     if MOST_OCTET < identifier {
         return 8;
     }
-    lent_refusal(parameters, nas)
+    if is_out_of_range(parameters, nas) {
+        return 8;
+    }
+    if !well_formed(parameters) {
+        return 9;
+    }
+    0
 }
 
 // Stores the header of a NAS response.
