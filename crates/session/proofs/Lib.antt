@@ -1,0 +1,4 @@
+-- The laws that the proofs of a session's steps share.
+pub mod Turns
+pub mod Packets
+pub mod Replies

@@ -1,0 +1,2 @@
+-- What the packets of an EAP-5G session come to on a line.
+pub mod Session
