@@ -1,0 +1,2 @@
+-- The steps from start to the chosen address.
+pub mod Outcomes

@@ -1,0 +1,89 @@
+// A line's attempt to reach a gateway, from start to the chosen address.
+mod given;
+
+use address::HOLDS;
+use config::MOST_TEXT;
+use config::parse::parse;
+use gateway::Found;
+use gateway::choose;
+use gateway::choose_one;
+use lists::addresses_fit;
+use lists::networks_fit;
+use octets::slice::zero;
+use phase::COUNTRY;
+use phase::IDLE;
+use phase::Phase;
+use phase::number;
+use place::Facts;
+use query::asked;
+use query::build;
+use record::Record;
+use rules::Action;
+use rules::StartNumbers;
+use selection::Choice;
+use selection::is_home_abroad;
+use step::Stepped;
+use step::current;
+use step::goes;
+use step::is_late;
+use step::refused;
+ghost use mathlib.Core.List.{[]};
+ghost use mathlib.Core.Path.{_≡_};
+ghost use Prim.Native.Nat.{_≤_};
+ghost use lib.ListN.{length};
+ghost use Rattle.network.specs.Name.{nameRoom};
+ghost use Rattle.query.specs.Query.{TextWithin};
+ghost use Rattle.record.specs.Line.{lineOf, InArrays};
+ghost use Rattle.rules.specs.Answer.{numbersOf, partNamed, PartWithin};
+ghost use Rattle.rules.specs.Call.{address, country, start};
+ghost use Rattle.rules.specs.Life.{decided, gatewayFound};
+ghost use Rattle.rules.specs.Refusals.{badNetworks};
+ghost use Rattle.step.specs.Step.{effect, effectIn, Gives};
+
+// What S5 found: the address is chosen, or selection stops.
+fn gateway_found(line: Record, found: Found) -> Stepped
+    requires { ⌜ InArrays line ⌝ }
+    ensures { λ r. ⌜ Gives r 0 (gatewayFound (lineOf line) found .line) (gatewayFound (lineOf line) found .action) ⌝ }
+{
+    match found {
+        Found::Chosen(a, passed) => goes(line, Phase::Chosen(a), Action::Chose(a, passed)),
+        Found::Nothing(passed) => goes(line, Phase::Idle, Action::Stopped(4, passed)),
+    }
+}
+
+// Whether a lent list of networks is out of its range, or comes without a reply.
+fn are_bad(replied: u64, networks: &[u8]) -> bool
+    ensures { λ r. ⌜ r ≡ badNetworks replied (now (networks .entry)) ⌝ }
+{
+    if 1 < replied {
+        return true;
+    }
+    if !networks_fit(networks) {
+        return true;
+    }
+    (replied == 0) & (0 < networks.len())
+}
+
+// The address answer: the first address that is permitted is chosen.
+pub fn address_answer(line: Record, time: u64, addresses: &[u8]) -> Stepped
+    requires { ⌜ InArrays line ⌝ }
+    ensures { λ r. ⌜ effectIn r [] [] ≡ effect (address (now (addresses .entry))) time (lineOf line) ⌝ }
+    ensures { λ r. ⌜ InArrays (r .line) ⌝ }
+{
+    let found = current(line, time);
+    if is_late(time) {
+        return refused(found, 8);
+    }
+    if !addresses_fit(addresses) {
+        return refused(found, 8);
+    }
+    let phase = found.phase;
+    let Phase::Name(facts) = phase else {
+        return refused(found, 10);
+    };
+    let holds = found.holds;
+    gateway_found(
+        found,
+        choose(addresses, facts.version, holds, found.hold_count),
+    )
+}
