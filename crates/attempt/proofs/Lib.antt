@@ -1,2 +1,3 @@
 -- The steps from start to the chosen address.
 pub mod Outcomes
+pub mod Parts

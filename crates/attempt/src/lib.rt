@@ -38,6 +38,7 @@ ghost use Rattle.rules.specs.Answer.{numbersOf, partNamed, PartWithin};
 ghost use Rattle.rules.specs.Call.{address, country, start};
 ghost use Rattle.rules.specs.Life.{decided, gatewayFound};
 ghost use Rattle.rules.specs.Refusals.{badNetworks};
+ghost use Rattle.attempt.specs.Attempt.{Says};
 ghost use Rattle.step.specs.Step.{effect, effectIn, Gives};
 
 // What S5 found: the address is chosen, or selection stops.
@@ -48,6 +49,29 @@ fn gateway_found(line: Record, found: Found) -> Stepped
     match found {
         Found::Chosen(a, passed) => goes(line, Phase::Chosen(a), Action::Chose(a, passed)),
         Found::Nothing(passed) => goes(line, Phase::Idle, Action::Stopped(4, passed)),
+    }
+}
+
+// What S1 to S4 came to: selection stops, a name is asked, or an address is treated as an answer list of one.
+fn decided(line: Record, facts: Facts, choice: Choice, text: &[u8], name: &mut [u8]) -> Stepped
+    requires { ⌜ InArrays line × TextWithin (now text) choice × (nameRoom ≤ length (now name)) ⌝ }
+    ensures { λ r. ⌜ Says r (decided (lineOf line) facts (now (text .entry)) choice) (now (text .entry)) (now (name .exit)) (length (now (name .entry))) ⌝ }
+{
+    let n = build(choice, name);
+    let length = asked(choice, text, name, n).len();
+    match choice {
+        Choice::Stop(number) => goes(line, Phase::Idle, Action::Stopped(number, 0)),
+        Choice::Country(_) => goes(line, Phase::Country(facts), Action::AskCountry(length)),
+        Choice::Text { at, length: _ } => goes(
+            line,
+            Phase::Name(facts),
+            Action::AskText(at, length),
+        ),
+        Choice::Network(_) => goes(line, Phase::Name(facts), Action::AskBuilt(length)),
+        Choice::Address(a) => {
+            let holds = line.holds;
+            gateway_found(line, choose_one(a, facts.version, holds, line.hold_count))
+        }
     }
 }
 

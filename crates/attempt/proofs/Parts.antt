@@ -1,0 +1,93 @@
+-- What S1 to S4 came to has the part that its action names.
+use Prim.Native.Nat.{ℕ, _+_, _≤_}
+use mathlib.Core.List.{List, []}
+use mathlib.Core.Path.{_≡_, refl, sym, ap, _∙_, subst}
+use native.Mathlib.Omega.{arith}
+use lib.ListN.{length}
+use Rattle.octets.specs.Part.{part}
+use Rattle.octets.proofs.Parts.{length-part}
+use Rattle.gateway.specs.declared.Found.{Found}
+use Rattle.gateway.specs.declared.Found.the-variants as Found
+use Rattle.network.specs.Name.{Named}
+use Rattle.network.specs.declared.Plmn.{Plmn}
+use Rattle.phase.specs.declared.Phase.the-variants as Phase
+use Rattle.place.specs.declared.Facts.{Facts}
+use Rattle.query.specs.Query.{asked, built, Lies, TextWithin}
+use Rattle.query.proofs.Names.{name-fits, name-part}
+use Rattle.record.specs.Line.{Line}
+use Rattle.rules.specs.Answer.{lentIn, numbersOf, partNamed, PartWithin, twelve}
+use Rattle.rules.specs.Life.{Outcome, decided, gatewayFound, goes, inPhase, nameAsked}
+use Rattle.rules.specs.declared.Action.the-variants.{AskBuilt, AskCountry, AskText}
+use Rattle.selection.specs.declared.Choice.{Choice}
+use Rattle.selection.specs.declared.Choice.the-variants.{Stop, Country, Text, Network, Address}
+use Rattle.step.specs.Step.{Gives}
+use Rattle.step.specs.declared.Stepped.{Stepped}
+use Rattle.attempt.specs.Attempt.{Says}
+
+-- a name that was built lies in its slice
+pub lies : (text name : List ℕ) (n room : ℕ) (c : Choice) → TextWithin text c → Named (built c) room name n → length name ≡ room → Lies text name n c
+lies text name n room c within named sized = record { in-text = within; in-name = subst (λ (k : ℕ). Named (built c) k name n) (sym sized) named }
+
+-- an outcome's part is the one that its action names, and its written octets are given
+record Named-by (o : Outcome) (text name written : List ℕ) : Type 0 where
+  part-is : partNamed (numbersOf (o .action)) text name [] ≡ o .part
+  part-within : PartWithin (numbersOf (o .action)) text name []
+  written-is : o .written ≡ written
+
+-- a name that was built is a part from the start of its buffer
+module _ (l name : List ℕ) (n : ℕ) (named : Named l (length name) name n) where
+  built-part : part name 0 (length l) ≡ l
+  built-part = ap (part name 0) (sym (named .size)) ∙ name-part l name n named
+
+  built-within : 0 + length l ≤ length name
+  built-within = subst (λ (k : ℕ). 0 + k ≤ length name) (named .size) (name-fits l name n named)
+
+module _ (x : Line) (text name : List ℕ) where
+  found-names : (f : Found) → Named-by (gatewayFound x f) text name []
+  unfolding gatewayFound goes numbersOf twelve partNamed lentIn part
+  found-names (Found.Chosen a k) = record { part-is = refl; part-within = omega arith; written-is = refl }
+  found-names (Found.Nothing k) = record { part-is = refl; part-within = omega arith; written-is = refl }
+
+  decided-names : (f : Facts) (n : ℕ) (c : Choice) → Lies text name n c → Named-by (decided x f text c) text name (built c)
+  unfolding decided goes nameAsked asked built numbersOf twelve partNamed lentIn part
+  decided-names f n (Stop k) l = record { part-is = refl; part-within = omega arith; written-is = refl }
+  decided-names f n (Country mcc) l =
+      record { part-is = built-part _ name n (l .in-name); part-within = built-within _ name n (l .in-name); written-is = refl }
+  decided-names f n (Text at m) l = record { part-is = refl; part-within = l .in-text; written-is = refl }
+  decided-names f n (Network p) l =
+      record { part-is = built-part _ name n (l .in-name); part-within = built-within _ name n (l .in-name); written-is = refl }
+  decided-names f n (Address a) l = found-names _
+
+module _ (r : Stepped) (x : Line) (f : Facts) (text : List ℕ) (c : Choice) where
+  -- the line and the action are those of the outcome
+  abbrev pub Decides : Type 0
+  Decides = Gives r 0 (decided x f text c .line) (decided x f text c .action)
+
+  -- a name is asked whose length the action says
+  module _ (l : List ℕ) (is-asked : l ≡ asked text c) where
+    pub asks-country : (mcc : ℕ) → c ≡ Country mcc → Gives r 0 (inPhase x (Phase.Country f)) (AskCountry (length l)) → Decides
+    unfolding decided nameAsked asked built
+    asks-country mcc told g = rw told (rw (is-asked, told) at g)
+
+    pub asks-built : (p : Plmn) → c ≡ Network p → Gives r 0 (inPhase x (Phase.Name f)) (AskBuilt (length l)) → Decides
+    unfolding decided nameAsked asked built
+    asks-built p told g = rw told (rw (is-asked, told) at g)
+
+    pub asks-text : (at n : ℕ) → c ≡ Text at n → TextWithin text c → Gives r 0 (inPhase x (Phase.Name f)) (AskText at (length l)) → Decides
+    unfolding decided nameAsked asked
+    asks-text at n told within g =
+        let inside : at + n ≤ length text = rw told at within in
+        rw told (rw (is-asked, told, length-part text at n inside) at g)
+
+  -- the name of the choice was built and lies in its slice
+  pub says : (name : List ℕ) (n room : ℕ) → TextWithin text c → Named (built c) room name n → length name ≡ room → Decides
+      → Says r (decided x f text c) text name room
+  says name n room within named sized gives =
+      let l = lies text name n room c within named sized in
+      let names = decided-names x text name f n c l in
+      record {
+        gives = gives;
+        part-is = rw (gives .action-is) (names .part-is);
+        part-within = rw (gives .action-is) (names .part-within);
+        name-is = rw (names .written-is) (named .whole);
+      }

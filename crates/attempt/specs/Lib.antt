@@ -1,0 +1,2 @@
+-- What the steps of an attempt answer.
+pub mod Attempt
