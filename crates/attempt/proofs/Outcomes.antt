@@ -1,19 +1,25 @@
 -- What the events of an attempt come to.
 use Prim.Native.Nat.{ℕ}
 use mathlib.Core.List.{List}
-use mathlib.Core.Path.{_≡_, refl, sym, ap, _∙_}
+use mathlib.Core.Option.{Option, some}
+use mathlib.Core.Path.{_≡_, refl, sym, ap, ap₂, _∙_}
+use lib.Dec.{eqb}
 use Rattle.address.specs.Address.{heldAddresses}
+use Rattle.config.specs.Settings.{Settings, configOf}
 use Rattle.gateway.specs.Gateway.{choose}
 use Rattle.gateway.specs.declared.Found.{Found}
 use Rattle.gateway.specs.declared.Found.the-variants.{Chosen, Nothing}
-use Rattle.lists.specs.Lists.{addressesIn}
+use Rattle.lists.specs.Lists.{addressesIn, networksIn}
 use Rattle.phase.specs.declared.Phase.{Phase}
-use Rattle.phase.specs.declared.Phase.the-variants.{Name}
+use Rattle.phase.specs.declared.Phase.the-variants.{Country, Name}
 use Rattle.place.specs.declared.Facts.{Facts}
 use Rattle.record.specs.Line.{Line}
-use Rattle.rules.specs.Call.{address}
-use Rattle.rules.specs.Life.{addressAnswered, becomes, gatewayFound, goes, outcome}
+use Rattle.rules.specs.Call.{address, country, factsOf, start}
+use Rattle.rules.specs.Life.{addressAnswered, becomes, countryAnswered, decided, gatewayFound, goes, outcome, started}
 use Rattle.rules.specs.Phases.{factsIn}
+use Rattle.rules.specs.declared.StartNumbers.{StartNumbers}
+use Rattle.selection.specs.Selection as Selection
+use Rattle.selection.specs.declared.Choice.{Choice}
 
 -- S5 returns and writes nothing
 pub found-becomes : (x : Line) (f : Found) → gatewayFound x f ≡ becomes (gatewayFound x f .line) (gatewayFound x f .action)
@@ -28,3 +34,17 @@ pub of-addresses : (l : List ℕ) (x : Line) (facts : Facts) (f : Found) → x .
 unfolding outcome addressAnswered factsIn
 of-addresses l x facts f waits e =
     ap (λ (p : Phase). addressAnswered x (factsIn p) (addressesIn l)) waits ∙ ap (gatewayFound x) (sym e) ∙ found-becomes x f
+
+-- start, where the text was read
+pub of-start : (g : StartNumbers) (text : List ℕ) (room : ℕ) (x : Line) (s : Settings) (f : Facts) (c : Choice) → configOf text ≡ some s → f ≡ factsOf g
+    → c ≡ Selection.start s f → outcome (start g text room) x ≡ decided x f text c
+unfolding outcome started
+of-start g text room x s f c says facts choice = rw (says, ← facts, ← choice)
+
+-- the country answer to a line that waits for it, where the text was read
+pub of-country : (n : ℕ) (networks text : List ℕ) (room : ℕ) (x : Line) (s : Settings) (f : Facts) (c : Choice) → x .phase ≡ Country f → configOf text ≡ some s
+    → c ≡ Selection.country s f (Selection.countryReply (eqb n 1) (networksIn networks)) → outcome (country n networks text room) x ≡ decided x f text c
+unfolding outcome countryAnswered factsIn
+of-country n networks text room x s f c waits says choice =
+    let answer = Selection.countryReply (eqb n 1) (networksIn networks) in
+    ap₂ (λ (p : Phase) (o : Option Settings). countryAnswered x (factsIn p) answer text o) waits says ∙ ap (decided x f text) (sym choice)

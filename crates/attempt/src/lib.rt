@@ -2,7 +2,9 @@
 mod given;
 
 use address::HOLDS;
+use address::Hold;
 use config::MOST_TEXT;
+use config::Parsed;
 use config::parse::parse;
 use gateway::Found;
 use gateway::choose;
@@ -10,7 +12,6 @@ use gateway::choose_one;
 use lists::addresses_fit;
 use lists::networks_fit;
 use octets::slice::zero;
-use phase::COUNTRY;
 use phase::IDLE;
 use phase::Phase;
 use phase::number;
@@ -21,23 +22,30 @@ use record::Record;
 use rules::Action;
 use rules::StartNumbers;
 use selection::Choice;
-use selection::is_home_abroad;
 use step::Stepped;
 use step::current;
 use step::goes;
 use step::is_late;
 use step::refused;
+ghost use mathlib.Core.Bool.{_&&_};
 ghost use mathlib.Core.List.{[]};
+ghost use mathlib.Core.Option.{some};
 ghost use mathlib.Core.Path.{_≡_};
 ghost use Prim.Native.Nat.{_≤_};
-ghost use lib.ListN.{length};
+ghost use lib.Dec.{leb};
+ghost use lib.ListN.{length, take};
+ghost use Rattle.address.specs.Address.{mostHolds};
+ghost use Rattle.config.specs.Settings.{parsed};
 ghost use Rattle.network.specs.Name.{nameRoom};
+ghost use Rattle.phase.specs.Stage as Stage;
+ghost use Rattle.phase.specs.Stage.{isIn};
 ghost use Rattle.query.specs.Query.{TextWithin};
 ghost use Rattle.record.specs.Line.{lineOf, InArrays};
 ghost use Rattle.rules.specs.Answer.{numbersOf, partNamed, PartWithin};
 ghost use Rattle.rules.specs.Call.{address, country, start};
 ghost use Rattle.rules.specs.Life.{decided, gatewayFound};
-ghost use Rattle.rules.specs.Refusals.{badNetworks};
+ghost use Rattle.rules.specs.Phases.{factsIn};
+ghost use Rattle.rules.specs.Refusals.{badNetworks, isHomeAbroad};
 ghost use Rattle.attempt.specs.Attempt.{Says};
 ghost use Rattle.step.specs.Step.{effect, effectIn, Gives};
 
@@ -75,6 +83,60 @@ fn decided(line: Record, facts: Facts, choice: Choice, text: &[u8], name: &mut [
     }
 }
 
+// Whether a place is abroad with the home MCC of a text that is well formed.
+fn is_home_abroad(text: Parsed, facts: Facts) -> bool
+    ensures { λ r. ⌜ r ≡ isHomeAbroad (parsed text) (some facts) ⌝ }
+{
+    let config = text.config;
+    let place = facts.place;
+    text.ok & selection::is_home_abroad(config, place)
+}
+
+// Whether there are as many holds as a line may have.
+fn are_full(holds: [Hold; HOLDS], n: usize) -> bool
+    ensures { λ r. ⌜ r ≡ leb mostHolds (length (take n holds)) ⌝ }
+{
+    HOLDS <= n
+}
+
+// Start: the gateway is chosen up to the question that is asked first.
+pub fn start(line: Record, time: u64, given: StartNumbers, text: &[u8], name: &mut [u8]) -> Stepped
+    requires { ⌜ InArrays line × (nameRoom ≤ length (now name)) ⌝ }
+    ensures { λ r. ⌜ effectIn r (partNamed (numbersOf (r .action)) (now (text .entry)) (now (name .exit)) []) (now (name .exit)) ≡ effect (start given (now (text .entry)) (length (now (name .entry)))) time (lineOf line) ⌝ }
+    ensures { λ r. ⌜ PartWithin (numbersOf (r .action)) (now (text .entry)) (now (name .exit)) [] ⌝ }
+    ensures { λ r. ⌜ InArrays (r .line) ⌝ }
+{
+    zero(name);
+    let found = current(line, time);
+    if is_late(time) {
+        return refused(found, 8);
+    }
+    if !given::numbers_fit(given) {
+        return refused(found, 8);
+    }
+    if MOST_TEXT < text.len() {
+        return refused(found, 8);
+    }
+    let parsed = parse(text);
+    let facts = given::facts_of(given);
+    if is_home_abroad(parsed, facts) {
+        return refused(found, 8);
+    }
+    if !parsed.ok {
+        return refused(found, 9);
+    }
+    let phase = found.phase;
+    if number(phase) != IDLE {
+        return refused(found, 10);
+    }
+    let holds = found.holds;
+    if are_full(holds, found.hold_count) {
+        return refused(found, 13);
+    }
+    let config = parsed.config;
+    decided(found, facts, selection::start(config, facts), text, name)
+}
+
 // Whether a lent list of networks is out of its range, or comes without a reply.
 fn are_bad(replied: u64, networks: &[u8]) -> bool
     ensures { λ r. ⌜ r ≡ badNetworks replied (now (networks .entry)) ⌝ }
@@ -86,6 +148,62 @@ fn are_bad(replied: u64, networks: &[u8]) -> bool
         return true;
     }
     (replied == 0) & (0 < networks.len())
+}
+
+// Whether a line that waits for the country answer is abroad with the home MCC of a text that is well formed.
+fn waits_home_abroad(text: Parsed, phase: Phase) -> bool
+    ensures { λ r. ⌜ r ≡ isIn Stage.country phase && isHomeAbroad (parsed text) (factsIn phase) ⌝ }
+{
+    let Phase::Country(facts) = phase else {
+        return false;
+    };
+    is_home_abroad(text, facts)
+}
+
+// The country answer: a network is chosen of those that are listed or configured.
+pub fn country_answer(
+    line: Record,
+    time: u64,
+    replied: u64,
+    networks: &[u8],
+    text: &[u8],
+    name: &mut [u8],
+) -> Stepped
+    requires { ⌜ InArrays line × (nameRoom ≤ length (now name)) ⌝ }
+    ensures { λ r. ⌜ effectIn r (partNamed (numbersOf (r .action)) (now (text .entry)) (now (name .exit)) []) (now (name .exit)) ≡ effect (country replied (now (networks .entry)) (now (text .entry)) (length (now (name .entry)))) time (lineOf line) ⌝ }
+    ensures { λ r. ⌜ PartWithin (numbersOf (r .action)) (now (text .entry)) (now (name .exit)) [] ⌝ }
+    ensures { λ r. ⌜ InArrays (r .line) ⌝ }
+{
+    zero(name);
+    let found = current(line, time);
+    if is_late(time) {
+        return refused(found, 8);
+    }
+    if are_bad(replied, networks) {
+        return refused(found, 8);
+    }
+    if MOST_TEXT < text.len() {
+        return refused(found, 8);
+    }
+    let parsed = parse(text);
+    let phase = found.phase;
+    if waits_home_abroad(parsed, phase) {
+        return refused(found, 8);
+    }
+    if !parsed.ok {
+        return refused(found, 9);
+    }
+    let Phase::Country(facts) = phase else {
+        return refused(found, 10);
+    };
+    let config = parsed.config;
+    decided(
+        found,
+        facts,
+        selection::country(config, facts, replied == 1, networks),
+        text,
+        name,
+    )
 }
 
 // The address answer: the first address that is permitted is chosen.

@@ -1,0 +1,53 @@
+-- What a step answers that may ask a name, by its refusal number.
+use Prim.Native.Nat.{ℕ, suc}
+use mathlib.Core.List.{List, []}
+use mathlib.Core.Path.{_≡_, ap, ap₂, _∙_}
+use native.Mathlib.Omega.{arith}
+use lib.Dec.{ltb}
+use Rattle.octets.specs.Part.{padded, part, zeros}
+use Rattle.octets.specs.Refusal.{refusal}
+use Rattle.record.specs.Line.{lineOf, InArrays}
+use Rattle.record.specs.declared.Record.{Record}
+use Rattle.rules.specs.Answer.{eventRoom, lentIn, numbersOf, partNamed, PartWithin, twelve}
+use Rattle.rules.specs.Call.{Event, lastTime}
+use Rattle.rules.specs.Life.{Outcome, current, outcome}
+use Rattle.rules.specs.Refusals.{refusalsOf}
+use Rattle.rules.specs.declared.Action.{Action}
+use Rattle.rules.specs.declared.Action.the-variants as Action
+use Rattle.step.specs.Step.{Gives, effect, effectIn}
+use Rattle.step.specs.declared.Stepped.{Stepped}
+use Rattle.step.proofs.Steps.{taken, turned-away}
+use Rattle.attempt.specs.Attempt.{Says}
+
+-- the event comes to the answer, whose part lies in the lent octets
+abbrev pub Answers : Event → ℕ → Record → Stepped → List ℕ → List ℕ → Type 0
+Answers e time line r text name =
+    (effectIn r (partNamed (numbersOf (r .action)) text name []) name ≡ effect e time (lineOf line))
+    × (PartWithin (numbersOf (r .action)) text name [] × InArrays (r .line))
+
+-- an action without a part
+module _ (action : Action) (is-nothing : action ≡ Action.Nothing) (text name : List ℕ) where
+  no-part : partNamed (numbersOf action) text name [] ≡ []
+  unfolding partNamed numbersOf twelve lentIn part
+  no-part = rw is-nothing
+
+  none-within : PartWithin (numbersOf action) text name []
+  unfolding numbersOf twelve lentIn
+  none-within = rw is-nothing (omega arith)
+
+module _ (e : Event) (time : ℕ) (line f : Record) (r : Stepped) (text name : List ℕ) (is-found : lineOf f ≡ current time (lineOf line)) where
+  -- it is refused, and the name buffer holds zeros
+  pub sent-back : (n : ℕ) → refusal (refusalsOf e (ltb lastTime time) (lineOf f)) ≡ suc n → name ≡ zeros (eventRoom e)
+      → Gives r (suc n) (lineOf f) Action.Nothing → Answers e time line r text name
+  sent-back n number empty g = (
+    ap₂ (effectIn r) (no-part (r .action) (g .action-is) text name) empty ∙ turned-away e time line f r is-found n number g,
+    (none-within (r .action) (g .action-is) text name, g .in-arrays),
+  )
+
+  -- it is accepted
+  pub carried-out : refusal (refusalsOf e (ltb lastTime time) (lineOf f)) ≡ 0 → (o : Outcome) → outcome e (lineOf f) ≡ o → (room : ℕ) → room ≡ eventRoom e
+      → Says r o text name room → Answers e time line r text name
+  carried-out number o is room sized s = (
+    ap₂ (effectIn r) (s .part-is) (s .name-is ∙ ap (λ (k : ℕ). padded k (o .written)) sized) ∙ taken e time line f r is-found number o is (s .gives),
+    (s .part-within, s .gives .in-arrays),
+  )
