@@ -22,7 +22,7 @@ use Rattle.selection.specs.Selection as Selection
 use Rattle.selection.specs.declared.Choice.{Choice}
 
 -- S5 returns and writes nothing
-pub found-becomes : (x : Line) (f : Found) → gatewayFound x f ≡ becomes (gatewayFound x f .line) (gatewayFound x f .action)
+found-becomes : (x : Line) (f : Found) → gatewayFound x f ≡ becomes (gatewayFound x f .line) (gatewayFound x f .action)
 unfolding gatewayFound goes
 found-becomes x (Chosen a k) = refl
 found-becomes x (Nothing k) = refl

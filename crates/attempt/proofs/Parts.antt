@@ -13,7 +13,7 @@ use Rattle.network.specs.declared.Plmn.{Plmn}
 use Rattle.phase.specs.declared.Phase.the-variants as Phase
 use Rattle.place.specs.declared.Facts.{Facts}
 use Rattle.query.specs.Query.{asked, built, Lies, TextWithin}
-use Rattle.query.proofs.Names.{name-fits, name-part}
+use Rattle.query.proofs.Names.{lies, name-fits, name-part}
 use Rattle.record.specs.Line.{Line}
 use Rattle.rules.specs.Answer.{lentIn, numbersOf, partNamed, PartWithin, twelve}
 use Rattle.rules.specs.Life.{Outcome, decided, gatewayFound, goes, inPhase, nameAsked}
@@ -24,17 +24,13 @@ use Rattle.step.specs.Step.{Gives}
 use Rattle.step.specs.declared.Stepped.{Stepped}
 use Rattle.attempt.specs.Attempt.{Says}
 
--- a name that was built lies in its slice
-pub lies : (text name : List ℕ) (n room : ℕ) (c : Choice) → TextWithin text c → Named (built c) room name n → length name ≡ room → Lies text name n c
-lies text name n room c within named sized = record { in-text = within; in-name = subst (λ (k : ℕ). Named (built c) k name n) (sym sized) named }
-
 -- an outcome's part is the one that its action names, and its written octets are given
 record Named-by (o : Outcome) (text name written : List ℕ) : Type 0 where
   part-is : partNamed (numbersOf (o .action)) text name [] ≡ o .part
   part-within : PartWithin (numbersOf (o .action)) text name []
   written-is : o .written ≡ written
 
--- a name that was built is a part from the start of its buffer
+-- a name that was built is the part from the start of its buffer
 module _ (l name : List ℕ) (n : ℕ) (named : Named l (length name) name n) where
   built-part : part name 0 (length l) ≡ l
   built-part = ap (part name 0) (sym (named .size)) ∙ name-part l name n named
@@ -60,7 +56,7 @@ module _ (x : Line) (text name : List ℕ) where
 
 module _ (r : Stepped) (x : Line) (f : Facts) (text : List ℕ) (c : Choice) where
   -- the line and the action are those of the outcome
-  abbrev pub Decides : Type 0
+  abbrev Decides : Type 0
   Decides = Gives r 0 (decided x f text c .line) (decided x f text c .action)
 
   -- a name is asked whose length the action says

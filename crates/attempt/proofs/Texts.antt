@@ -55,7 +55,7 @@ module _ (p : Parsed) (s : Option Settings) (is-read : parsed p ≡ s) where
       go true = refl
       go false = refl
 
-  -- the test says so of the facts that the code has
+  -- what a test of the code said of facts, and of a phase
   pub home-said : (f g : Facts) → f ≡ g → {b : Bool} → b ≡ isHomeAbroad (parsed p) (some f) → isHomeAbroad s (some g) ≡ b
   home-said f g same said = sym (said ∙ ap₂ (λ (o : Option Settings) (h : Facts). isHomeAbroad o (some h)) is-read same)
 

@@ -46,8 +46,8 @@ ghost use Rattle.rules.specs.Call.{address, country, start};
 ghost use Rattle.rules.specs.Life.{decided, gatewayFound};
 ghost use Rattle.rules.specs.Phases.{factsIn};
 ghost use Rattle.rules.specs.Refusals.{badNetworks, isHomeAbroad};
-ghost use Rattle.attempt.specs.Attempt.{Says};
 ghost use Rattle.step.specs.Step.{effect, effectIn, Gives};
+ghost use Rattle.attempt.specs.Attempt.{Says};
 
 // What S5 found: the address is chosen, or selection stops.
 fn gateway_found(line: Record, found: Found) -> Stepped

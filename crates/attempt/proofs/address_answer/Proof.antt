@@ -78,12 +78,11 @@ gateway-found-requires c κs = search needs
 returns-4 : tie.Need-returns-4
 unfolding eventRoom zeros padded isOutOfRange isMalformed isAllowed isSpiTaken hasNoRoom isHeldFull lineOf
 returns-4 c =
-    let a = c .before .before .before .before .before .before .before .before .before .before .before .before .args in
-    let found = c .before .before .before .before .before .before .before .before .before .before .current in
-    let timely =
-    sym (c .before .before .before .before .before .before .before .before .before .is-late .ensures)
-    ∙ c .before .before .before .before .before .before .before .before .if1 .left in
-    let fit = sym (ap not (c .before .before .before .before .before .before .before .addresses-fit .ensures)) ∙ c .before .before .before .before .before .before .if2 .left in
+    let first = c .before .before .before .before .before .before in
+    let a = first .before .before .before .before .before .before .args in
+    let found = first .before .before .before .before .current in
+    let timely = sym (first .before .before .before .is-late .ensures) ∙ first .before .before .if1 .left in
+    let fit = sym (ap not (first .before .addresses-fit .ensures)) ∙ first .if2 .left in
     let in-name = c .before .before .before .before .phase .given .1 in
     let gives = c .gateway-found .ensures in (
       taken (address (now (a .addresses))) _ (a .line) (found .result) _ (found .ensures .0)

@@ -1,8 +1,9 @@
 -- `attempt::decided` meets its contract: the choice says the phase and the action, and the name that it needs is built and lies in its slice.
 use borrow.Author.Needs.{needs}
+use Rattle.query.proofs.Names.{lies}
 use Rattle.record.specs.Line.{lineOf}
 use Rattle.rules.specs.Life.{decided, goes}
-use Rattle.attempt.proofs.Parts.{asks-built, asks-country, asks-text, lies, says}
+use Rattle.attempt.proofs.Parts.{asks-built, asks-country, asks-text, says}
 use Rattle.attempt.proofs.decided.Statement.{statement}
 use Rattle.attempt.proofs.decided.Tie as tie
 

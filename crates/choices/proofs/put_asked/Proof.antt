@@ -1,16 +1,8 @@
 -- `choices::put_asked` is safe: the buffer holds the name that was built.
-use Prim.Native.Nat.{ℕ}
-use mathlib.Core.List.{List}
-use mathlib.Core.Path.{_≡_, sym, subst}
-use lib.ListN.{length}
-use Rattle.network.specs.Name.{Named}
 use borrow.Author.Needs.{needs}
+use Rattle.query.proofs.Names.{lies}
 use Rattle.choices.proofs.put_asked.Statement.{statement}
 use Rattle.choices.proofs.put_asked.Tie as tie
-
--- a name's buffer keeps its length
-resized : (l b : List ℕ) (k n : ℕ) → Named l k b n → length b ≡ k → Named l (length b) b n
-resized l b k n named e = subst (λ (m : ℕ). Named l m b n) (sym e) named
 
 slice-aggregate-build : tie.Need-slice-aggregate-build
 slice-aggregate-build c = search needs
@@ -28,9 +20,7 @@ slice-aggregate-asked : tie.Need-slice-aggregate-asked
 slice-aggregate-asked c = search needs
 
 asked-requires : tie.Need-asked-requires
-asked-requires c κs =
-    let build = c .before .before .before .before .build in
-    record { in-text = c .before .before .before .before .before .before .before .pre; in-name = resized _ _ _ _ (build .ensures) (search needs) }
+asked-requires c κs = lies _ _ _ _ _ (c .before .before .before .before .before .before .before .pre) (c .before .before .before .before .build .ensures) (search needs)
 
 put-text-requires-2 : tie.Need-put-text-requires-2
 put-text-requires-2 c κs = search needs
