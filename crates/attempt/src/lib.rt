@@ -134,7 +134,8 @@ pub fn start(line: Record, time: u64, given: StartNumbers, text: &[u8], name: &m
         return refused(found, 13);
     }
     let config = parsed.config;
-    decided(found, facts, selection::start(config, facts), text, name)
+    let choice = selection::start(config, facts);
+    decided(found, facts, choice, text, name)
 }
 
 // Whether a lent list of networks is out of its range, or comes without a reply.
@@ -197,13 +198,8 @@ pub fn country_answer(
         return refused(found, 10);
     };
     let config = parsed.config;
-    decided(
-        found,
-        facts,
-        selection::country(config, facts, replied == 1, networks),
-        text,
-        name,
-    )
+    let choice = selection::country(config, facts, replied == 1, networks);
+    decided(found, facts, choice, text, name)
 }
 
 // The address answer: the first address that is permitted is chosen.
