@@ -4,7 +4,6 @@ use phase::Phase;
 use record::Record;
 use rules::Action;
 ghost use mathlib.Core.Path.{_≡_};
-ghost use Prim.Native.Nat.{_≤_};
 ghost use lib.Dec.{ltb};
 ghost use Rattle.record.specs.Line.{lineOf, InArrays};
 ghost use Rattle.rules.specs.Call.{lastTime};
@@ -34,7 +33,6 @@ pub fn current(line: Record, time: u64) -> Record
     requires { ⌜ InArrays line ⌝ }
     ensures { λ r. ⌜ lineOf r ≡ current time (lineOf line) ⌝ }
     ensures { λ r. ⌜ InArrays r ⌝ }
-    ensures { λ r. ⌜ r .«hold_count» ≤ line .«hold_count» ⌝ }
 {
     let phase = line.phase;
     let holds = line.holds;

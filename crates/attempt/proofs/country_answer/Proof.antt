@@ -142,7 +142,7 @@ country-requires c κs = search needs
 decided-requires : tie.Need-decided-requires
 decided-requires c κs =
     let room = c .before .before .before .before .before .before .before .before .before .before .before .before .before .before .before .before .before .before .before .before .before .before .before .before .pre .1 in
-    (c .before .before .before .before .before .before .before .before .before .before .before .before .before .before .before .before .current .ensures .1 .0, country-within _ _ (c .before .before .before .before .before .before .before .before .before .before .parse .ensures .1) _ _ _ (c .before .country .ensures), rw (c .before .before .before .before .before .before .before .before .before .before .before .before .before .before .before .before .before .before .before .zero .kept .0) room)
+    (c .before .before .before .before .before .before .before .before .before .before .before .before .before .before .before .before .current .ensures .1, country-within _ _ (c .before .before .before .before .before .before .before .before .before .before .parse .ensures .1) _ _ _ (c .before .country .ensures), rw (c .before .before .before .before .before .before .before .before .before .before .before .before .before .before .before .before .before .before .before .zero .kept .0) room)
 
 same-length-7 : tie.Need-same-length-7
 same-length-7 c = c .before .before .decided .kept .1 .1 .1 .1 .0 ∙ c .before .before .before .before .before .before .before .before .before .before .before .before .before .before .before .before .before .before .before .before .before .before .zero .kept .0

@@ -170,7 +170,7 @@ start-requires c κs = search needs
 decided-requires : tie.Need-decided-requires
 decided-requires c κs =
     let room = c .before .before .before .before .before .before .before .before .before .before .before .before .before .before .before .before .before .before .before .before .before .before .before .before .before .before .pre .1 in
-    (c .before .before .before .before .before .before .before .before .before .before .before .before .before .before .before .before .before .before .before .current .ensures .1 .0, start-within _ _ (c .before .before .before .before .before .before .before .before .before .before .before .before .before .parse .ensures .1) _ _ (c .before .start .ensures), rw (c .before .before .before .before .before .before .before .before .before .before .before .before .before .before .before .before .before .before .before .before .before .before .zero .kept .0) room)
+    (c .before .before .before .before .before .before .before .before .before .before .before .before .before .before .before .before .before .before .before .current .ensures .1, start-within _ _ (c .before .before .before .before .before .before .before .before .before .before .before .before .before .parse .ensures .1) _ _ (c .before .start .ensures), rw (c .before .before .before .before .before .before .before .before .before .before .before .before .before .before .before .before .before .before .before .before .before .before .zero .kept .0) room)
 
 same-length-8 : tie.Need-same-length-8
 same-length-8 c = c .before .before .decided .kept .1 .1 .1 .1 .0 ∙ c .before .before .before .before .before .before .before .before .before .before .before .before .before .before .before .before .before .before .before .before .before .before .before .before .before .zero .kept .0

@@ -21,7 +21,7 @@ returns c =
       ap
           (λ (hs : List Hold). record { time = a .time; phase = a .line .phase; holds = hs; children = take (a .line .«child_count») (a .line .children) })
           (kept .0),
-      ((omega (arith, kept .1, c .before .before .before .before .pre .0), c .before .before .before .before .pre .1), kept .1),
+      (omega (arith, kept .1, c .before .before .before .before .pre .0), c .before .before .before .before .pre .1),
     )
 
 pub current-spec : {M : Type 1} → statement M

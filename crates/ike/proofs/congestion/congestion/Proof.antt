@@ -139,7 +139,7 @@ held-requires c κs =
     let stored = time-stored (start .time) (lineOf (start .line)) (lineOf (found .result)) (found .ensures .0) in
     let sound = tested .before .before .before .before .before .pre .1 in
     let room = has-room (start .time) (lineOf (start .line)) (lineOf (found .result)) (found .ensures .0) sound (chosen-busy _ _ is) in
-    (found .ensures .1 .0, room, omega (arith, stored, timely))
+    (found .ensures .1, room, omega (arith, stored, timely))
 
 ended-requires : tie.Need-ended-requires
 ended-requires c κs = search needs

@@ -104,7 +104,7 @@ returns-5 c =
     let live = is-in Stage.live _ _ (c .before .before .before .before .before .before .number .ensures) (c .before .before .before .before .before .if3 .left) in
     let new = sym (c .before .before .before .has-spi .ensures) ∙ c .before .before .if4 .left in
     let x = found .result in
-    let full = ap (leb mostChildren) (child-count x _ (found .ok) (found .ensures .1 .0)) ∙ le-leb _ _ (c .before .if5 .taken) in
+    let full = ap (leb mostChildren) (child-count x _ (found .ok) (found .ensures .1)) ∙ le-leb _ _ (c .before .if5 .taken) in
     let gives = c .refused5 .ensures in
     (turned-away e (a .time) (a .line) x _ (found .ensures .0) 11 (no-room e _ _ timely is-child refl live new full) gives, gives .in-arrays)
 
@@ -134,7 +134,7 @@ returns-6 c =
     let live = is-in Stage.live _ _ (c .before .before .before .before .before .before .before .number .ensures) (c .before .before .before .before .before .before .if3 .left) in
     let new = sym (c .before .before .before .before .has-spi .ensures) ∙ c .before .before .before .if4 .left in
     let x = found .result in
-    let room = ap (leb mostChildren) (child-count x _ (found .ok) (found .ensures .1 .0)) ∙ lt-leb _ _ (c .before .before .if5 .left) in
+    let room = ap (leb mostChildren) (child-count x _ (found .ok) (found .ensures .1)) ∙ lt-leb _ _ (c .before .before .if5 .left) in
     let number = accepted e _ _ timely is-child refl live new room refl in
     let gives = c .goes .ensures in
     let more = gone _ (lineOf x) _ _ _ _ _ (c .before .with-children .ensures .0) (child-behind x _ (found .ok) _ (c .before .before .if5 .left)) gives in
