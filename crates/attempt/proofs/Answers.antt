@@ -38,7 +38,7 @@ module _ (action : Action) (is-nothing : action ≡ Action.Nothing) (text name :
 module _ (e : Event) (time : ℕ) (line f : Record) (r : Stepped) (text name : List ℕ) (is-found : lineOf f ≡ current time (lineOf line)) where
   -- it is refused, and the name buffer holds zeros
   pub sent-back : (n : ℕ) → refusal (refusalsOf e (ltb lastTime time) (lineOf f)) ≡ suc n → name ≡ zeros (eventRoom e)
-      → Gives r (suc n) (lineOf f) Action.Nothing → Answers e time line r text name
+      → Gives r (suc n) (lineOf line) Action.Nothing → Answers e time line r text name
   sent-back n number empty g = (
     ap₂ (effectIn r) (no-part (r .action) (g .action-is) text name) empty ∙ turned-away e time line f r is-found n number g,
     (none-within (r .action) (g .action-is) text name, g .in-arrays),

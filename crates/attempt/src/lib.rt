@@ -109,29 +109,29 @@ pub fn start(line: Record, time: u64, given: StartNumbers, text: &[u8], name: &m
     zero(name);
     let found = current(line, time);
     if is_late(time) {
-        return refused(found, 8);
+        return refused(line, 8);
     }
     if !given::numbers_fit(given) {
-        return refused(found, 8);
+        return refused(line, 8);
     }
     if MOST_TEXT < text.len() {
-        return refused(found, 8);
+        return refused(line, 8);
     }
     let parsed = parse(text);
     let facts = given::facts_of(given);
     if is_home_abroad(parsed, facts) {
-        return refused(found, 8);
+        return refused(line, 8);
     }
     if !parsed.ok {
-        return refused(found, 9);
+        return refused(line, 9);
     }
     let phase = found.phase;
     if number(phase) != IDLE {
-        return refused(found, 10);
+        return refused(line, 10);
     }
     let holds = found.holds;
     if are_full(holds, found.hold_count) {
-        return refused(found, 13);
+        return refused(line, 13);
     }
     let config = parsed.config;
     let choice = selection::start(config, facts);
@@ -178,24 +178,24 @@ pub fn country_answer(
     zero(name);
     let found = current(line, time);
     if is_late(time) {
-        return refused(found, 8);
+        return refused(line, 8);
     }
     if are_bad(replied, networks) {
-        return refused(found, 8);
+        return refused(line, 8);
     }
     if MOST_TEXT < text.len() {
-        return refused(found, 8);
+        return refused(line, 8);
     }
     let parsed = parse(text);
     let phase = found.phase;
     if waits_home_abroad(parsed, phase) {
-        return refused(found, 8);
+        return refused(line, 8);
     }
     if !parsed.ok {
-        return refused(found, 9);
+        return refused(line, 9);
     }
     let Phase::Country(facts) = phase else {
-        return refused(found, 10);
+        return refused(line, 10);
     };
     let config = parsed.config;
     let choice = selection::country(config, facts, replied == 1, networks);
@@ -210,14 +210,14 @@ pub fn address_answer(line: Record, time: u64, addresses: &[u8]) -> Stepped
 {
     let found = current(line, time);
     if is_late(time) {
-        return refused(found, 8);
+        return refused(line, 8);
     }
     if !addresses_fit(addresses) {
-        return refused(found, 8);
+        return refused(line, 8);
     }
     let phase = found.phase;
     let Phase::Name(facts) = phase else {
-        return refused(found, 10);
+        return refused(line, 10);
     };
     let holds = found.holds;
     gateway_found(

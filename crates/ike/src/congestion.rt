@@ -96,24 +96,24 @@ pub fn congestion(line: Record, time: u64, authenticated: u64, timer: u64) -> St
 {
     let found = current(line, time);
     if is_late(time) {
-        return refused(found, 8);
+        return refused(line, 8);
     }
     if 1 < authenticated {
-        return refused(found, 8);
+        return refused(line, 8);
     }
     if MOST_OCTET < timer {
-        return refused(found, 8);
+        return refused(line, 8);
     }
     if authenticated != 1 {
-        return refused(found, 10);
+        return refused(line, 10);
     }
     let phase = found.phase;
     if !is_underway(phase) {
-        return refused(found, 10);
+        return refused(line, 10);
     }
     // A line underway has a chosen address, so nothing is refused here.
     let MaybeAddress::Is(a) = chosen(phase) else {
-        return refused(found, 10);
+        return refused(line, 10);
     };
     goes(
         held(found, a, timer as u8),

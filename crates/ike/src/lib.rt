@@ -35,11 +35,11 @@ pub fn begin(line: Record, time: u64) -> Stepped
 {
     let found = current(line, time);
     if is_late(time) {
-        return refused(found, 8);
+        return refused(line, 8);
     }
     let phase = found.phase;
     let Phase::Chosen(a) = phase else {
-        return refused(found, 10);
+        return refused(line, 10);
     };
     goes(found, Phase::Init(a), Action::SendInit)
 }
@@ -52,11 +52,11 @@ pub fn init_answer(line: Record, time: u64) -> Stepped
 {
     let found = current(line, time);
     if is_late(time) {
-        return refused(found, 8);
+        return refused(line, 8);
     }
     let phase = found.phase;
     let Phase::Init(a) = phase else {
-        return refused(found, 10);
+        return refused(line, 10);
     };
     goes(found, Phase::Auth(a), Action::SendAuthRequest)
 }
@@ -69,14 +69,14 @@ pub fn final_answer(line: Record, time: u64, good: u64) -> Stepped
 {
     let found = current(line, time);
     if is_late(time) {
-        return refused(found, 8);
+        return refused(line, 8);
     }
     if 1 < good {
-        return refused(found, 8);
+        return refused(line, 8);
     }
     let phase = found.phase;
     let Phase::Sure(a) = phase else {
-        return refused(found, 10);
+        return refused(line, 10);
     };
     if good == 1 {
         return goes(found, Phase::Live(a), Action::Live);
@@ -110,17 +110,17 @@ pub fn error(line: Record, time: u64, code: u64) -> Stepped
 {
     let found = current(line, time);
     if is_late(time) {
-        return refused(found, 8);
+        return refused(line, 8);
     }
     if code < 1 {
-        return refused(found, 8);
+        return refused(line, 8);
     }
     if MOST_ERROR < code {
-        return refused(found, 8);
+        return refused(line, 8);
     }
     let phase = found.phase;
     if !is_underway(phase) {
-        return refused(found, 10);
+        return refused(line, 10);
     }
     goes(found, Phase::Idle, Action::ErrorUp(ended(phase), code))
 }
@@ -133,14 +133,14 @@ pub fn give_up(line: Record, time: u64) -> Stepped
 {
     let found = current(line, time);
     if is_late(time) {
-        return refused(found, 8);
+        return refused(line, 8);
     }
     let phase = found.phase;
     if number(phase) == IDLE {
-        return refused(found, 10);
+        return refused(line, 10);
     }
     if number(phase) == LIVE {
-        return refused(found, 10);
+        return refused(line, 10);
     }
     goes(found, Phase::Idle, Action::Nothing)
 }

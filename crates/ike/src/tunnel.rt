@@ -62,23 +62,23 @@ pub fn child_made(line: Record, time: u64, spi: u64, session: u64) -> Stepped
 {
     let found = current(line, time);
     if is_late(time) {
-        return refused(found, 8);
+        return refused(line, 8);
     }
     let child = Child { spi, session };
     if !is_child(child) {
-        return refused(found, 8);
+        return refused(line, 8);
     }
     let phase = found.phase;
     if number(phase) != LIVE {
-        return refused(found, 10);
+        return refused(line, 10);
     }
     let mut children = found.children;
     let n = found.child_count;
     if has_spi(children, 0, n, spi) {
-        return refused(found, 11);
+        return refused(line, 11);
     }
     if CHILDREN <= n {
-        return refused(found, 12);
+        return refused(line, 12);
     }
     children[n] = child;
     goes(
@@ -96,15 +96,15 @@ pub fn child_deleted(line: Record, time: u64, spi: u64) -> Stepped
 {
     let found = current(line, time);
     if is_late(time) {
-        return refused(found, 8);
+        return refused(line, 8);
     }
     let phase = found.phase;
     if number(phase) != LIVE {
-        return refused(found, 10);
+        return refused(line, 10);
     }
     let children = found.children;
     if !has_spi(children, 0, found.child_count, spi) {
-        return refused(found, 10);
+        return refused(line, 10);
     }
     let others = without(children, found.child_count, spi);
     let list = others.list;
@@ -123,11 +123,11 @@ pub fn ike_delete(line: Record, time: u64) -> Stepped
 {
     let found = current(line, time);
     if is_late(time) {
-        return refused(found, 8);
+        return refused(line, 8);
     }
     let phase = found.phase;
     if number(phase) != LIVE {
-        return refused(found, 10);
+        return refused(line, 10);
     }
     let children = found.children;
     goes(

@@ -27,12 +27,12 @@ use Rattle.step.specs.declared.Stepped.{Stepped}
 use Rattle.step.proofs.Steps.{accepted, taken, turned-away, untimely}
 use Rattle.session.specs.Session.{Takes, packetOutcome}
 
-module _ (r : Stepped) (x : Line) (p : Packet) where
-  pub not-due : isDue p (x .phase) ≡ false → Gives r 10 x Action.Nothing → Takes r x p
+module _ (r : Stepped) (x found : Line) (p : Packet) where
+  pub not-due : isDue p (found .phase) ≡ false → Gives r 10 x Action.Nothing → Takes r x found p
   unfolding packetOutcome
   not-due e g = rw e g
 
-  pub due : isDue p (x .phase) ≡ true → Gives r 0 (packetTaken x [] p .line) (packetTaken x [] p .action) → Takes r x p
+  pub due : isDue p (found .phase) ≡ true → Gives r 0 (packetTaken found [] p .line) (packetTaken found [] p .action) → Takes r x found p
   unfolding packetOutcome
   due e g = rw e g
 
@@ -86,7 +86,7 @@ Shown l time line r action =
 
 module _ (l : List ℕ) (time : ℕ) (line f : Record) (r : Stepped) (is-found : lineOf f ≡ current time (lineOf line)) where
   -- a refusal names no part
-  pub away : (n : ℕ) → refusal (refusalsOf (eap l) (ltb lastTime time) (lineOf f)) ≡ suc n → Gives r (suc n) (lineOf f) Action.Nothing
+  pub away : (n : ℕ) → refusal (refusalsOf (eap l) (ltb lastTime time) (lineOf f)) ≡ suc n → Gives r (suc n) (lineOf line) Action.Nothing
       → Shown l time line r (r .action)
   unfolding eventRoom zeros partNamed numbersOf twelve lentIn part
   away n number g =
@@ -101,7 +101,7 @@ module _ (l : List ℕ) (time : ℕ) (line f : Record) (r : Stepped) (is-found :
     unfolding isAllowed
     as-read = ap (λ (q : Packet). isDue q (lineOf f .phase)) (sym read)
 
-    by-due : (b : Bool) → isDue p (lineOf f .phase) ≡ b → Gives r (cond b 0 10) (packetOutcome (lineOf f) p b .line) (packetOutcome (lineOf f) p b .action)
+    by-due : (b : Bool) → isDue p (lineOf f .phase) ≡ b → Gives r (cond b 0 10) (packetOutcome (lineOf line) (lineOf f) p b .line) (packetOutcome (lineOf line) (lineOf f) p b .action)
         → Shown l time line r (r .action)
     unfolding packetOutcome isOutOfRange isSpiTaken hasNoRoom isHeldFull outcome eventRoom padded zeros
     by-due true e g =
@@ -110,5 +110,5 @@ module _ (l : List ℕ) (time : ℕ) (line f : Record) (r : Stepped) (is-found :
         subst (Shown l time line r) (sym (g .action-is)) (taken (eap l) time line f r is-found number _ is g, (within l (lineOf f) p read, g .in-arrays))
     by-due false e g = away 9 (untimely (eap l) (ltb lastTime time) (lineOf f) timely refl formed (as-read ∙ e)) g
 
-    pub shown : Takes r (lineOf f) p → Shown l time line r (r .action)
+    pub shown : Takes r (lineOf line) (lineOf f) p → Shown l time line r (r .action)
     shown g = by-due (isDue p (lineOf f .phase)) refl g

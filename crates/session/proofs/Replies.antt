@@ -52,17 +52,17 @@ module _ (p n : List ℕ) (room : ℕ) (time : ℕ) (line f : Record) (r : Stepp
   e = reply p n room
 
   -- a refused reply leaves zeros
-  pub away : (k : ℕ) → refusal (refusalsOf e (ltb lastTime time) (lineOf f)) ≡ suc k → Gives r (suc k) (lineOf f) Action.Nothing → Shown e time line r z
+  pub away : (k : ℕ) → refusal (refusalsOf e (ltb lastTime time) (lineOf f)) ≡ suc k → Gives r (suc k) (lineOf line) Action.Nothing → Shown e time line r z
   unfolding eventRoom
   away k number g = (ap (effectIn r []) clear ∙ turned-away e time line f r is-found k number g, g .in-arrays)
 
   module _ (timely : ltb lastTime time ≡ false) where
-    pub out : lentOutOfRange p n ≡ true → Gives r 8 (lineOf f) Action.Nothing → Shown e time line r z
+    pub out : lentOutOfRange p n ≡ true → Gives r 8 (lineOf line) Action.Nothing → Shown e time line r z
     unfolding isOutOfRange
     out q g = away 7 (unfit e _ (lineOf f) timely (rw q)) g
 
     module _ (fit : lentOutOfRange p n ≡ false) where
-      pub lacking : lacksParameters p (f .phase) ≡ true → Gives r 8 (lineOf f) Action.Nothing → Shown e time line r z
+      pub lacking : lacksParameters p (f .phase) ≡ true → Gives r 8 (lineOf line) Action.Nothing → Shown e time line r z
       unfolding isOutOfRange lineOf
       lacking q g = away 7 (unfit e _ (lineOf f) timely (rw (fit, q))) g
 
@@ -71,7 +71,7 @@ module _ (p n : List ℕ) (room : ℕ) (time : ℕ) (line f : Record) (r : Stepp
     unfolding isOutOfRange lineOf
     in-bounds = rw (passed .fit, passed .enough)
 
-    pub ill-formed : wellFormed p ≡ false → Gives r 9 (lineOf f) Action.Nothing → Shown e time line r z
+    pub ill-formed : wellFormed p ≡ false → Gives r 9 (lineOf line) Action.Nothing → Shown e time line r z
     unfolding isMalformed
     ill-formed q g = away 8 (malformed e _ (lineOf f) (passed .timely) in-bounds (rw q)) g
 
@@ -80,7 +80,7 @@ module _ (p n : List ℕ) (room : ℕ) (time : ℕ) (line f : Record) (r : Stepp
       unfolding isMalformed
       well = rw formed
 
-      pub none-owed : owed (turnIn (f .phase)) ≡ none → Gives r 10 (lineOf f) Action.Nothing → Shown e time line r z
+      pub none-owed : owed (turnIn (f .phase)) ≡ none → Gives r 10 (lineOf line) Action.Nothing → Shown e time line r z
       unfolding isAllowed lineOf isSome
       none-owed q g = away 9 (untimely e _ (lineOf f) (passed .timely) in-bounds well (rw q)) g
 

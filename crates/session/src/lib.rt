@@ -27,13 +27,13 @@ ghost use Rattle.step.specs.Step.{effect, effectIn};
 ghost use Rattle.session.specs.Session.{Takes};
 
 // EAP Start: the identifier is owed, and NAS is asked for.
-fn start(found: Record, identifier: u64) -> Stepped
-    requires { ⌜ InArrays found ⌝ }
-    ensures { λ r. ⌜ Takes r (lineOf found) (Start identifier) ⌝ }
+fn eap_start(line: Record, found: Record, identifier: u64) -> Stepped
+    requires { ⌜ InArrays line × InArrays found ⌝ }
+    ensures { λ r. ⌜ Takes r (lineOf line) (lineOf found) (Start identifier) ⌝ }
 {
     let phase = found.phase;
     let Phase::Auth(a) = phase else {
-        return refused(found, 10);
+        return refused(line, 10);
     };
     goes(
         found,
@@ -43,16 +43,16 @@ fn start(found: Record, identifier: u64) -> Stepped
 }
 
 // EAP NAS: the identifier is owed, and NAS is handed up as a part of the packet.
-fn nas_request(found: Record, identifier: u64, at: usize, n: usize) -> Stepped
-    requires { ⌜ InArrays found ⌝ }
-    ensures { λ r. ⌜ Takes r (lineOf found) (NasRequest identifier at n) ⌝ }
+fn eap_nas(line: Record, found: Record, identifier: u64, at: usize, n: usize) -> Stepped
+    requires { ⌜ InArrays line × InArrays found ⌝ }
+    ensures { λ r. ⌜ Takes r (lineOf line) (lineOf found) (NasRequest identifier at n) ⌝ }
 {
     let phase = found.phase;
     let Phase::Eap(a, turn) = phase else {
-        return refused(found, 10);
+        return refused(line, 10);
     };
     let Turn::Answered(_) = turn else {
-        return refused(found, 10);
+        return refused(line, 10);
     };
     goes(
         found,
@@ -62,25 +62,25 @@ fn nas_request(found: Record, identifier: u64, at: usize, n: usize) -> Stepped
 }
 
 // EAP Success with the identifier of the last reply: AUTH is sent.
-fn success(found: Record, identifier: u64) -> Stepped
-    requires { ⌜ InArrays found ⌝ }
-    ensures { λ r. ⌜ Takes r (lineOf found) (Success identifier) ⌝ }
+fn eap_success(line: Record, found: Record, identifier: u64) -> Stepped
+    requires { ⌜ InArrays line × InArrays found ⌝ }
+    ensures { λ r. ⌜ Takes r (lineOf line) (lineOf found) (Success identifier) ⌝ }
 {
     let phase = found.phase;
     let Phase::Eap(a, turn) = phase else {
-        return refused(found, 10);
+        return refused(line, 10);
     };
     let Turn::Answered(last) = turn else {
-        return refused(found, 10);
+        return refused(line, 10);
     };
     if identifier != last {
-        return refused(found, 10);
+        return refused(line, 10);
     }
     goes(found, Phase::Sure(a), Action::SendAuth)
 }
 
 // A packet: Start, NAS requests and Success are taken apart, and every other one is turned away.
-pub fn packet(line: Record, time: u64, packet: &[u8]) -> Stepped
+pub fn eap_packet(line: Record, time: u64, packet: &[u8]) -> Stepped
     requires { ⌜ InArrays line ⌝ }
     ensures { λ r. ⌜ effectIn r (partNamed (numbersOf (r .action)) [] [] (now (packet .entry))) [] ≡ effect (eap (now (packet .entry))) time (lineOf line) ⌝ }
     ensures { λ r. ⌜ PartWithin (numbersOf (r .action)) [] [] (now (packet .entry)) ⌝ }
@@ -88,23 +88,23 @@ pub fn packet(line: Record, time: u64, packet: &[u8]) -> Stepped
 {
     let found = current(line, time);
     if is_late(time) {
-        return refused(found, 8);
+        return refused(line, 8);
     }
     let read = eap::read(packet);
     if let Packet::Start { identifier } = read {
-        return start(found, identifier);
+        return eap_start(line, found, identifier);
     }
     if let Packet::NasRequest {
         identifier,
         nas,
         nas_length,
     } = read {
-        return nas_request(found, identifier, nas, nas_length);
+        return eap_nas(line, found, identifier, nas, nas_length);
     }
     let Packet::Success { identifier } = read else {
-        return refused(found, 9);
+        return refused(line, 9);
     };
-    success(found, identifier)
+    eap_success(line, found, identifier)
 }
 
 // Whether the first reply of a session is still to come, and it lacks AN-parameters.
@@ -129,23 +129,23 @@ pub fn reply(line: Record, time: u64, parameters: &[u8], nas: &[u8], buffer: &mu
     zero(buffer);
     let found = current(line, time);
     if is_late(time) {
-        return refused(found, 8);
+        return refused(line, 8);
     }
     if is_out_of_range(parameters, nas) {
-        return refused(found, 8);
+        return refused(line, 8);
     }
     let phase = found.phase;
     if lacks_parameters(parameters, phase) {
-        return refused(found, 8);
+        return refused(line, 8);
     }
     if !well_formed(parameters) {
-        return refused(found, 9);
+        return refused(line, 9);
     }
     let Phase::Eap(a, turn) = phase else {
-        return refused(found, 10);
+        return refused(line, 10);
     };
     let (Turn::First(identifier) | Turn::Owed(identifier)) = turn else {
-        return refused(found, 10);
+        return refused(line, 10);
     };
     let n = put_response(identifier, parameters, nas, buffer);
     goes(

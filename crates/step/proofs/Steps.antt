@@ -69,18 +69,18 @@ gives-effect r n x action part buffer g = rw (g .refusal-is, g .line-is, g .acti
 
 -- an event on a line that was found
 module _ (e : Event) (time : ℕ) (line f : Record) (r : Stepped) (is-found : lineOf f ≡ current time (lineOf line)) where
-  by-number : (n : ℕ) → refusal (refusalsOf e (ltb lastTime time) (lineOf f)) ≡ n → (o : Outcome) → outcomeBy n e (lineOf f) ≡ o
+  by-number : (n : ℕ) → refusal (refusalsOf e (ltb lastTime time) (lineOf f)) ≡ n → (o : Outcome) → outcomeBy n e (lineOf line) (lineOf f) ≡ o
       → Gives r n (o .line) (o .action) → effectIn r (o .part) (padded (eventRoom e) (o .written)) ≡ effect e time (lineOf line)
   unfolding effect
   by-number n number o is g =
       gives-effect r n (o .line) (o .action) (o .part) (padded (eventRoom e) (o .written)) g ∙ sym (rw (sym is-found, number, is))
 
-  -- it is refused: the line stays as it was found
-  pub turned-away : (n : ℕ) → refusal (refusalsOf e (ltb lastTime time) (lineOf f)) ≡ suc n → Gives r (suc n) (lineOf f) Action.Nothing
+  -- it is refused: the line stays as it was
+  pub turned-away : (n : ℕ) → refusal (refusalsOf e (ltb lastTime time) (lineOf f)) ≡ suc n → Gives r (suc n) (lineOf line) Action.Nothing
       → effectIn r [] (zeros (eventRoom e)) ≡ effect e time (lineOf line)
   unfolding outcomeBy padded
   turned-away n number g =
-      ap (λ (k : ℕ). effectIn r [] (zeros k)) (sym (less-none (eventRoom e))) ∙ by-number (suc n) number (becomes (lineOf f) Action.Nothing) refl g
+      ap (λ (k : ℕ). effectIn r [] (zeros k)) (sym (less-none (eventRoom e))) ∙ by-number (suc n) number (becomes (lineOf line) Action.Nothing) refl g
 
   -- it is accepted: the outcome is the definition's
   pub taken : refusal (refusalsOf e (ltb lastTime time) (lineOf f)) ≡ 0 → (o : Outcome) → outcome e (lineOf f) ≡ o → Gives r 0 (o .line) (o .action)

@@ -22,17 +22,17 @@ pub record Effect : Type 0 where
   pub part : List ℕ
   pub buffer : List ℕ
 
--- by the refusal number: a refused event leaves the line as it was found, with nothing to do, to return or to write
-unfoldable pub outcomeBy : ℕ → Event → Line → Outcome
-outcomeBy zero e x = outcome e x
-outcomeBy (suc n) e x = becomes x Action.Nothing
+-- by the refusal number, of a line and of what a call finds of it: a refused event leaves the line as it was, with nothing to do, to return or to write
+unfoldable pub outcomeBy : ℕ → Event → Line → Line → Outcome
+outcomeBy zero e x found = outcome e found
+outcomeBy (suc n) e x found = becomes x Action.Nothing
 
 -- an event at a time on a line, with zeros behind what is written to the answer buffer
 unfoldable pub effect : Event → ℕ → Line → Effect
 effect e time x =
     let found = current time x in
     let n = refusal (refusalsOf e (ltb lastTime time) found) in
-    let o = outcomeBy n e found in
+    let o = outcomeBy n e x found in
     record { refusal = n; line = o .line; action = o .action; part = o .part; buffer = padded (eventRoom e) (o .written) }
 
 -- what the code's answer says, with the octets of the part and the answer buffer

@@ -49,7 +49,7 @@ pub fn current(line: Record, time: u64) -> Record
     }
 }
 
-// A refusal: the line stays as it was found, and nothing is to be done.
+// A refusal: the line stays as it was, and nothing is to be done.
 pub fn refused(line: Record, number: u64) -> Stepped
     requires { ⌜ InArrays line ⌝ }
     ensures { λ r. ⌜ Gives r number (lineOf line) Nothing ⌝ }

@@ -93,7 +93,7 @@ returns-4 c =
     sent-back (country _ _ _ _) _ (a .line) (found .result) _ _ _ (found .ensures .0) 7 (unfit _ _ _ timely (by-third _ _ _ fit short home)) (first .before .before .before .before .before .before .before .before .zero .ensures) (c .refused4 .ensures)
 
 refused-requires-5 : tie.Need-refused-requires-5
-refused-requires-5 c κs = search needs
+refused-requires-5 c κs = c .before .before .before .before .before .before .before .before .before .before .before .before .before .before .before .before .before .before .pre .0
 
 same-length-5 : tie.Need-same-length-5
 same-length-5 c = c .before .before .before .before .before .before .before .before .before .before .before .before .before .before .zero .kept .0
@@ -116,7 +116,7 @@ enum-known-phase : tie.Need-enum-known-phase
 enum-known-phase c = search needs
 
 refused-requires-6 : tie.Need-refused-requires-6
-refused-requires-6 c κs = search needs
+refused-requires-6 c κs = c .before .before .before .before .before .before .before .before .before .before .before .before .before .before .before .before .before .before .before .pre .0
 
 same-length-6 : tie.Need-same-length-6
 same-length-6 c = c .before .before .before .before .before .before .before .before .before .before .before .before .before .before .before .zero .kept .0

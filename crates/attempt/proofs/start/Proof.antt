@@ -78,7 +78,7 @@ is-home-abroad-requires : tie.Need-is-home-abroad-requires
 is-home-abroad-requires c κs = search needs
 
 refused-requires-4 : tie.Need-refused-requires-4
-refused-requires-4 c κs = search needs
+refused-requires-4 c κs = c .before .before .before .before .before .before .before .before .before .before .before .before .before .before .before .before .pre .0
 
 same-length-4 : tie.Need-same-length-4
 same-length-4 c = c .before .before .before .before .before .before .before .before .before .before .before .before .before .zero .kept .0
@@ -96,7 +96,7 @@ returns-4 c =
     sent-back (start _ _ _) _ _ _ _ _ _ (found .ensures .0) 7 (unfit _ _ _ timely (by-third _ _ _ fit short home)) (first .before .before .before .before .before .before .before .before .zero .ensures) (c .refused4 .ensures)
 
 refused-requires-5 : tie.Need-refused-requires-5
-refused-requires-5 c κs = search needs
+refused-requires-5 c κs = c .before .before .before .before .before .before .before .before .before .before .before .before .before .before .before .before .before .before .pre .0
 
 same-length-5 : tie.Need-same-length-5
 same-length-5 c = c .before .before .before .before .before .before .before .before .before .before .before .before .before .before .before .zero .kept .0
@@ -118,7 +118,7 @@ number-requires : tie.Need-number-requires
 number-requires c κs = search needs
 
 refused-requires-6 : tie.Need-refused-requires-6
-refused-requires-6 c κs = search needs
+refused-requires-6 c κs = c .before .before .before .before .before .before .before .before .before .before .before .before .before .before .before .before .before .before .before .before .pre .0
 
 same-length-6 : tie.Need-same-length-6
 same-length-6 c = c .before .before .before .before .before .before .before .before .before .before .before .before .before .before .before .before .before .zero .kept .0
@@ -142,7 +142,7 @@ are-full-requires : tie.Need-are-full-requires
 are-full-requires c κs = search needs
 
 refused-requires-7 : tie.Need-refused-requires-7
-refused-requires-7 c κs = search needs
+refused-requires-7 c κs = c .before .before .before .before .before .before .before .before .before .before .before .before .before .before .before .before .before .before .before .before .before .before .before .pre .0
 
 same-length-7 : tie.Need-same-length-7
 same-length-7 c = c .before .before .before .before .before .before .before .before .before .before .before .before .before .before .before .before .before .before .before .before .zero .kept .0

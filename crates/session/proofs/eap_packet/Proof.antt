@@ -1,11 +1,11 @@
--- `session::packet` meets its contract: each packet that is taken apart is the one that was read, and every other is malformed.
+-- `session::eap_packet` meets its contract: each packet that is taken apart is the one that was read, and every other is malformed.
 use mathlib.Core.Path.{refl, sym, _∙_}
 use borrow.Author.Needs.{needs}
 use Rattle.rules.specs.Refusals.{isOutOfRange, isTakenApart}
 use Rattle.step.proofs.Steps.{late, malformed}
 use Rattle.session.proofs.Packets.{away, by-read, foreign, shown}
-use Rattle.session.proofs.packet.Statement.{statement}
-use Rattle.session.proofs.packet.Tie as tie
+use Rattle.session.proofs.eap_packet.Statement.{statement}
+use Rattle.session.proofs.eap_packet.Tie as tie
 
 current-requires : tie.Need-current-requires
 current-requires c κs = search needs
@@ -27,8 +27,8 @@ read-requires c κs = search needs
 enum-known-read : tie.Need-enum-known-read
 enum-known-read c = search needs
 
-start-requires : tie.Need-start-requires
-start-requires c κs = search needs
+eap-start-requires : tie.Need-eap-start-requires
+eap-start-requires c κs = search needs
 
 returns-2 : tie.Need-returns-2
 unfolding isTakenApart
@@ -36,13 +36,13 @@ returns-2 c =
     let read = c .before .before .before .before in
     let late = read .before .before in
     shown _ _ _ _ _ (late .before .current .ensures .0) (sym (late .is-late .ensures) ∙ read .before .if1 .left) _
-    (sym (c .before .before .read2 .given .1) ∙ read .read .ensures) refl (c .start .ensures)
+    (sym (c .before .before .read2 .given .1) ∙ read .read .ensures) refl (c .eap-start .ensures)
 
 enum-known-read-2 : tie.Need-enum-known-read-2
 enum-known-read-2 c = search needs
 
-nas-request-requires : tie.Need-nas-request-requires
-nas-request-requires c κs = search needs
+eap-nas-requires : tie.Need-eap-nas-requires
+eap-nas-requires c κs = search needs
 
 returns-3 : tie.Need-returns-3
 unfolding isTakenApart
@@ -50,7 +50,7 @@ returns-3 c =
     let read = c .before .before .before .before .before in
     let late = read .before .before in
     shown _ _ _ _ _ (late .before .current .ensures .0) (sym (late .is-late .ensures) ∙ read .before .if1 .left) _
-    (sym (c .before .before .read3 .given .1) ∙ read .read .ensures) refl (c .nas-request .ensures)
+    (sym (c .before .before .read3 .given .1) ∙ read .read .ensures) refl (c .eap-nas .ensures)
 
 enum-known-read-3 : tie.Need-enum-known-read-3
 enum-known-read-3 c = search needs
@@ -67,8 +67,8 @@ returns-4 c =
     away _ _ _ _ _ (late .before .current .ensures .0) 8
     (malformed _ _ _ (sym (late .is-late .ensures) ∙ read .before .if1 .left) refl (by-read _ (read .read .ensures) none)) (c .refused2 .ensures)
 
-success-requires : tie.Need-success-requires
-success-requires c κs = search needs
+eap-success-requires : tie.Need-eap-success-requires
+eap-success-requires c κs = search needs
 
 returns-5 : tie.Need-returns-5
 unfolding isTakenApart
@@ -76,10 +76,10 @@ returns-5 c =
     let read = c .before .before .before .before .before .before in
     let late = read .before .before in
     shown _ _ _ _ _ (late .before .current .ensures .0) (sym (late .is-late .ensures) ∙ read .before .if1 .left) _
-    (sym (c .before .before .read4 .given .1) ∙ read .read .ensures) refl (c .success .ensures)
+    (sym (c .before .before .read4 .given .1) ∙ read .read .ensures) refl (c .eap-success .ensures)
 
-pub packet-spec : {M : Type 1} → statement M
-packet-spec =
+pub eap-packet-spec : {M : Type 1} → statement M
+eap-packet-spec =
     tie.close
     (tie.spec
     current-requires
@@ -88,13 +88,13 @@ packet-spec =
     returns
     read-requires
     enum-known-read
-    start-requires
+    eap-start-requires
     returns-2
     enum-known-read-2
-    nas-request-requires
+    eap-nas-requires
     returns-3
     enum-known-read-3
     refused-requires-2
     returns-4
-    success-requires
+    eap-success-requires
     returns-5)
