@@ -162,13 +162,13 @@ pub fn all_end_after(list: [Hold; HOLDS], n: usize, time: u64) -> bool
 }
 
 // The holds of a line: those below the count.
-pub struct Standing {
+pub struct Holds {
     pub list: [Hold; HOLDS],
     pub count: usize,
 }
 
 // Those of the first n holds that end after a time, in their order.
-pub fn in_force(list: [Hold; HOLDS], n: usize, time: u64) -> Standing
+pub fn in_force(list: [Hold; HOLDS], n: usize, time: u64) -> Holds
     requires { ⌜ n ≤ mostHolds ⌝ }
     ensures { λ r. ⌜ take (r .count) (r .list) ≡ only (endsAfter time) (take n list) ⌝ }
     ensures { λ r. ⌜ r .count ≤ n ⌝ }
@@ -185,7 +185,7 @@ pub fn in_force(list: [Hold; HOLDS], n: usize, time: u64) -> Standing
         }
         i += 1;
     }
-    Standing { list: kept, count }
+    Holds { list: kept, count }
 }
 
 // Does nothing; its promise is that writing and reading undo each other.

@@ -66,7 +66,7 @@ fn put_block(packet: &mut [u8], at: usize, octets: &[u8])
     copy(octets, packet, at + 2);
 }
 
-// Writes a NAS response and zeros after it.
+// Writes a NAS response and zeros after it; of an identifier its lowest octet.
 pub fn put_response(identifier: u64, parameters: &[u8], nas: &[u8], packet: &mut [u8]) -> usize
     requires { ⌜ 18 + length (now parameters) + length (now nas) ≤ length (now packet) ⌝ }
     ensures buffer { λ _. ⌜ now (packet .exit) ≡ padded (length (now (packet .entry))) (response identifier (now (parameters .entry)) (now (nas .entry))) ⌝ }

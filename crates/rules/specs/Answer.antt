@@ -43,7 +43,7 @@ numbersOf (Action.Released ended) = twelve 12 0 0 0 0 0 0 0 0 ended 0 0
 numbersOf (Action.ErrorUp ended n) = twelve 13 0 0 0 0 0 0 0 0 ended n 0
 numbersOf (Action.Listed n) = twelve 0 0 0 0 0 0 0 0 0 0 0 n
 
--- the lent octets in which a part lies: 1 the configuration text, 2 the name buffer, 3 the packet
+-- the lent octets in which a part lies: 1 the configuration text, 2 the name buffer, 3 the packet; 0 none
 unfoldable pub lentIn : ℕ → List ℕ → List ℕ → List ℕ → List ℕ
 lentIn n text name packet = cond (eqb n 1) text (cond (eqb n 2) name (cond (eqb n 3) packet []))
 

@@ -119,7 +119,7 @@ badNetworks replied networks = ltb 1 replied || not (networksFit networks) || eq
 unfoldable pub lacksParameters : List ℕ → Phase → Bool
 lacksParameters parameters p = isFirst (turnIn p) && ltb (length parameters) 1
 
--- an SPI from 256 in four octets, a session 1 to 15
+-- an SPI from 256 in four octets, a session 1 to 15, which one octet holds
 unfoldable pub isChild : Child → Bool
 isChild c = childFits c && childStorable c
 

@@ -13,7 +13,6 @@ use Rattle.table.specs.Table.{freePair, isTable}
 use Rattle.rules.specs.Call.{Call, pairOf, tenantOf}
 use Rattle.rules.specs.Life.{current}
 
--- the lines stand by their numbers
 pub record View : Type 0 where
   pub sound : Bool
   pub free : Bool
@@ -22,8 +21,12 @@ pub record View : Type 0 where
 unfoldable pub ownLine : ℕ → List Slot → ℕ → Option Line
 ownLine tenant ss line = lineAt (pairOf tenant line) ss
 
+-- the lines of a tenant by their numbers
+abbrev pub ownLines : ℕ → List Slot → List (Option Line)
+ownLines tenant ss = row (ownLine tenant ss) 0 (suc lastLine)
+
 unfoldable pub viewOf : Bool → ℕ → List Slot → View
-viewOf sound tenant ss = record { sound = sound; free = isOpen freePair ss; lines = row (ownLine tenant ss) 0 (suc lastLine) }
+viewOf sound tenant ss = record { sound = sound; free = isOpen freePair ss; lines = ownLines tenant ss }
 
 unfoldable pub viewIn : Call → List ℕ → View
 viewIn c l = viewOf (isTable l) (tenantOf c) (slotsOf l)

@@ -1,4 +1,4 @@
-// What every step on a line shares: the line as a call finds it, and how a step answers.
+// What every step on a line shares: the line as a call finds it, and how a step answers. The refusals from 1 to 7 are tested before a step.
 use holds::in_force;
 use phase::Phase;
 use record::Record;
@@ -14,7 +14,7 @@ ghost use Rattle.step.specs.Step.{Gives};
 // The last time that a call may carry.
 const LAST_TIME: u64 = 4294967295;
 
-// What a step answers: the refusal number or 0, the line afterwards, and what the daemon has to do.
+// What a step answers: the refusal number from 8 to 13 or 0, the line afterwards, and what the daemon has to do.
 pub struct Stepped {
     pub refusal: u64,
     pub line: Record,
