@@ -1,2 +1,3 @@
 -- The laws that the proofs of steps share.
+pub mod Running
 pub mod Steps

@@ -58,7 +58,7 @@ module _ (e : Event) (out : Bool) (x : Line) where
               unfolding refusalsOf refusal
               accepted q = rw (timely, fit, formed, allowed, new, room, q)
 
-less-none : (n : ℕ) → n - 0 ≡ n
+pub less-none : (n : ℕ) → n - 0 ≡ n
 less-none n = omega arith
 
 -- the parts of an answer are those of its effect

@@ -9,6 +9,7 @@ ghost use Rattle.record.specs.Line.{lineOf, InArrays};
 ghost use Rattle.rules.specs.Call.{lastTime};
 ghost use Rattle.rules.specs.Life.{current, inPhase};
 ghost use Rattle.rules.specs.declared.Action.the-variants.{Nothing};
+ghost use Rattle.step.specs.Laws.{Laws};
 ghost use Rattle.step.specs.Step.{Gives};
 
 // The last time that a call may carry.
@@ -81,3 +82,8 @@ pub fn goes(line: Record, phase: Phase, action: Action) -> Stepped
         action,
     }
 }
+
+// Does nothing; its promise is that what an event comes to is what `run` makes of its call.
+pub fn laws()
+    ensures { λ _. ⌜ Laws ⌝ }
+{}
