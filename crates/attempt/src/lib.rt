@@ -2,7 +2,6 @@
 mod given;
 
 use address::HOLDS;
-use address::Hold;
 use config::MOST_TEXT;
 use config::Parsed;
 use config::parse::parse;
@@ -32,9 +31,7 @@ ghost use mathlib.Core.List.{[]};
 ghost use mathlib.Core.Option.{some};
 ghost use mathlib.Core.Path.{_≡_};
 ghost use Prim.Native.Nat.{_≤_};
-ghost use lib.Dec.{leb};
-ghost use lib.ListN.{length, take};
-ghost use Rattle.address.specs.Address.{mostHolds};
+ghost use lib.ListN.{length};
 ghost use Rattle.config.specs.Settings.{parsed};
 ghost use Rattle.network.specs.Name.{nameRoom};
 ghost use Rattle.phase.specs.Stage as Stage;
@@ -92,13 +89,6 @@ fn is_home_abroad(text: Parsed, facts: Facts) -> bool
     text.ok & selection::is_home_abroad(config, place)
 }
 
-// Whether there are as many holds as a line may have.
-fn are_full(holds: [Hold; HOLDS], n: usize) -> bool
-    ensures { λ r. ⌜ r ≡ leb mostHolds (length (take n holds)) ⌝ }
-{
-    HOLDS <= n
-}
-
 // Start: the gateway is chosen up to the question that is asked first.
 pub fn start(line: Record, time: u64, given: StartNumbers, text: &[u8], name: &mut [u8]) -> Stepped
     requires { ⌜ InArrays line × (nameRoom ≤ length (now name)) ⌝ }
@@ -129,8 +119,7 @@ pub fn start(line: Record, time: u64, given: StartNumbers, text: &[u8], name: &m
     if number(phase) != IDLE {
         return refused(line, 10);
     }
-    let holds = found.holds;
-    if are_full(holds, found.hold_count) {
+    if HOLDS <= found.hold_count {
         return refused(line, 13);
     }
     let config = parsed.config;

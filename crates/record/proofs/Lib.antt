@@ -1,4 +1,5 @@
 -- The laws that the proofs of this crate share.
+pub mod Counts
 pub mod Lines
 pub mod Sounds
 pub mod Writing

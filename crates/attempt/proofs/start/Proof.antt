@@ -1,12 +1,15 @@
 -- `attempt::start` meets its contract: each return has passed the tests before it.
 use mathlib.Core.Bool.{not}
 use mathlib.Core.Path.{refl, sym, ap, _∙_}
+use lib.Dec.{leb}
 use borrow.Author.Needs.{needs}
-use borrow.Author.Tests.{le-ltb, lt-ltb}
+use borrow.Author.Tests.{le-leb, le-ltb, lt-leb, lt-ltb}
+use Rattle.address.specs.Address.{mostHolds}
 use Rattle.phase.specs.Stage as Stage
 use Rattle.phase.proofs.Stages.{is-in, not-in}
 use Rattle.query.proofs.Texts.{start-within}
 use Rattle.record.specs.Line.{lineOf}
+use Rattle.record.proofs.Counts.{hold-count}
 use Rattle.rules.specs.Answer.{eventRoom}
 use Rattle.rules.specs.Call.{start}
 use Rattle.rules.specs.Refusals.{hasNoRoom, isAllowed, isHeldFull, isLong, isMalformed, isOutOfRange, isSpiTaken}
@@ -138,29 +141,26 @@ returns-6 c =
     let busy = not-in Stage.idle (found .result .phase) _ (c .before .before .number .ensures) (c .before .if6 .taken) in
     sent-back (start _ _ _) _ (a .line) (found .result) _ _ _ (found .ensures .0) 9 (untimely _ _ _ timely (by-none _ _ _ fit short home) well busy) (first .before .before .before .before .before .before .before .before .zero .ensures) (c .refused6 .ensures)
 
-are-full-requires : tie.Need-are-full-requires
-are-full-requires c κs = search needs
-
 refused-requires-7 : tie.Need-refused-requires-7
-refused-requires-7 c κs = c .before .before .before .before .before .before .before .before .before .before .before .before .before .before .before .before .before .before .before .before .before .before .before .pre .0
+refused-requires-7 c κs = c .before .before .before .before .before .before .before .before .before .before .before .before .before .before .before .before .before .before .before .before .before .before .pre .0
 
 same-length-7 : tie.Need-same-length-7
-same-length-7 c = c .before .before .before .before .before .before .before .before .before .before .before .before .before .before .before .before .before .before .before .before .zero .kept .0
+same-length-7 c = c .before .before .before .before .before .before .before .before .before .before .before .before .before .before .before .before .before .before .before .zero .kept .0
 
 returns-7 : tie.Need-returns-7
 unfolding eventRoom isOutOfRange isLong isMalformed isAllowed isSpiTaken hasNoRoom isHeldFull lineOf
 returns-7 c =
-    let first = c .before .before .before .before .before .before .before .before .before .before .before .before in
+    let first = c .before .before .before .before .before .before .before .before .before .before .before in
     let a = first .before .before .before .before .before .before .before .before .before .before .before .before .args in
     let found = first .before .before .before .before .before .current in
     let timely = sym (first .before .before .before .before .is-late .ensures) ∙ first .before .before .before .if1 .left in
     let fit = sym (ap not (first .before .before .numbers-fit .ensures)) ∙ first .before .if2 .left in
     let short = le-ltb _ _ (first .if3 .left) in
-    let parse = c .before .before .before .before .before .before .before .before .before .before .before .parse in
-    let home = home-said _ _ (parse .ensures .0) _ _ (c .before .before .before .before .before .before .before .before .before .before .facts-of .ensures) (c .before .before .before .before .before .before .before .before .before .is-home-abroad .ensures) ∙ c .before .before .before .before .before .before .before .before .if4 .left in
-    let well = formed _ _ (parse .ensures .0) ∙ c .before .before .before .before .before .before .if5 .left in
-    let idle = is-in Stage.idle (found .result .phase) _ (c .before .before .before .before .before .number .ensures) (c .before .before .before .before .if6 .left) in
-    let full = sym (c .before .before .are-full .ensures) ∙ c .before .if7 .taken in
+    let parse = c .before .before .before .before .before .before .before .before .before .before .parse in
+    let home = home-said _ _ (parse .ensures .0) _ _ (c .before .before .before .before .before .before .before .before .before .facts-of .ensures) (c .before .before .before .before .before .before .before .before .is-home-abroad .ensures) ∙ c .before .before .before .before .before .before .before .if4 .left in
+    let well = formed _ _ (parse .ensures .0) ∙ c .before .before .before .before .before .if5 .left in
+    let idle = is-in Stage.idle (found .result .phase) _ (c .before .before .before .before .number .ensures) (c .before .before .before .if6 .left) in
+    let full = ap (leb mostHolds) (hold-count (found .result) _ (found .ok) (found .ensures .1)) ∙ le-leb _ _ (c .before .if7 .taken) in
     sent-back (start _ _ _) _ (a .line) (found .result) _ _ _ (found .ensures .0) 12
     (held-full _ _ _ timely (by-none _ _ _ fit short home) well idle refl refl full) (first .before .before .before .before .before .before .before .before .zero .ensures) (c .refused7 .ensures)
 
@@ -169,29 +169,29 @@ start-requires c κs = search needs
 
 decided-requires : tie.Need-decided-requires
 decided-requires c κs =
-    let room = c .before .before .before .before .before .before .before .before .before .before .before .before .before .before .before .before .before .before .before .before .before .before .before .before .before .before .pre .1 in
-    (c .before .before .before .before .before .before .before .before .before .before .before .before .before .before .before .before .before .before .before .current .ensures .1, start-within _ _ (c .before .before .before .before .before .before .before .before .before .before .before .before .before .parse .ensures .1) _ _ (c .before .start .ensures), rw (c .before .before .before .before .before .before .before .before .before .before .before .before .before .before .before .before .before .before .before .before .before .before .zero .kept .0) room)
+    let room = c .before .before .before .before .before .before .before .before .before .before .before .before .before .before .before .before .before .before .before .before .before .before .before .before .before .pre .1 in
+    (c .before .before .before .before .before .before .before .before .before .before .before .before .before .before .before .before .before .before .current .ensures .1, start-within _ _ (c .before .before .before .before .before .before .before .before .before .before .before .before .parse .ensures .1) _ _ (c .before .start .ensures), rw (c .before .before .before .before .before .before .before .before .before .before .before .before .before .before .before .before .before .before .before .before .before .zero .kept .0) room)
 
 same-length-8 : tie.Need-same-length-8
-same-length-8 c = c .before .before .decided .kept .1 .1 .1 .1 .0 ∙ c .before .before .before .before .before .before .before .before .before .before .before .before .before .before .before .before .before .before .before .before .before .before .before .before .before .zero .kept .0
+same-length-8 c = c .before .before .decided .kept .1 .1 .1 .1 .0 ∙ c .before .before .before .before .before .before .before .before .before .before .before .before .before .before .before .before .before .before .before .before .before .before .before .before .zero .kept .0
 
 returns-8 : tie.Need-returns-8
 unfolding eventRoom isOutOfRange isLong isMalformed isAllowed isSpiTaken hasNoRoom isHeldFull lineOf
 returns-8 c =
-    let first = c .before .before .before .before .before .before .before .before .before .before .before .before .before .before .before .before .before in
+    let first = c .before .before .before .before .before .before .before .before .before .before .before .before .before .before .before .before in
     let a = first .before .before .before .before .before .before .before .before .before .before .before .before .args in
     let found = first .before .before .before .before .before .current in
     let timely = sym (first .before .before .before .before .is-late .ensures) ∙ first .before .before .before .if1 .left in
     let fit = sym (ap not (first .before .before .numbers-fit .ensures)) ∙ first .before .if2 .left in
     let short = le-ltb _ _ (first .if3 .left) in
-    let parse = c .before .before .before .before .before .before .before .before .before .before .before .before .before .before .before .before .parse in
-    let home = home-said _ _ (parse .ensures .0) _ _ (c .before .before .before .before .before .before .before .before .before .before .before .before .before .before .before .facts-of .ensures) (c .before .before .before .before .before .before .before .before .before .before .before .before .before .before .is-home-abroad .ensures) ∙ c .before .before .before .before .before .before .before .before .before .before .before .before .before .if4 .left in
-    let well = formed _ _ (parse .ensures .0) ∙ c .before .before .before .before .before .before .before .before .before .before .before .if5 .left in
-    let idle = is-in Stage.idle (found .result .phase) _ (c .before .before .before .before .before .before .before .before .before .before .number .ensures) (c .before .before .before .before .before .before .before .before .before .if6 .left) in
-    let room = sym (c .before .before .before .before .before .before .before .are-full .ensures) ∙ c .before .before .before .before .before .before .if7 .left in
+    let parse = c .before .before .before .before .before .before .before .before .before .before .before .before .before .before .before .parse in
+    let home = home-said _ _ (parse .ensures .0) _ _ (c .before .before .before .before .before .before .before .before .before .before .before .before .before .before .facts-of .ensures) (c .before .before .before .before .before .before .before .before .before .before .before .before .before .is-home-abroad .ensures) ∙ c .before .before .before .before .before .before .before .before .before .before .before .before .if4 .left in
+    let well = formed _ _ (parse .ensures .0) ∙ c .before .before .before .before .before .before .before .before .before .before .if5 .left in
+    let idle = is-in Stage.idle (found .result .phase) _ (c .before .before .before .before .before .before .before .before .before .number .ensures) (c .before .before .before .before .before .before .before .before .if6 .left) in
+    let room = ap (leb mostHolds) (hold-count (found .result) _ (found .ok) (found .ensures .1)) ∙ lt-leb _ _ (c .before .before .before .before .before .before .if7 .left) in
     carried-out (start _ _ _) _ (a .line) (found .result) _ _ _ (found .ensures .0)
     (accepted _ _ _ timely (by-none _ _ _ fit short home) well idle refl refl room) _
-    (of-start _ _ _ _ _ _ _ (says-settings _ _ (parse .ensures .0) (c .before .before .before .before .before .before .before .before .before .before .before .if5 .left)) (c .before .before .before .before .before .before .before .before .before .before .before .before .before .before .before .facts-of .ensures) (c .before .before .before .before .start .ensures)) _
+    (of-start _ _ _ _ _ _ _ (says-settings _ _ (parse .ensures .0) (c .before .before .before .before .before .before .before .before .before .before .if5 .left)) (c .before .before .before .before .before .before .before .before .before .before .before .before .before .before .facts-of .ensures) (c .before .before .before .before .start .ensures)) _
     (first .before .before .before .before .before .before .before .before .zero .kept .0) (c .before .before .decided .ensures)
 
 pub start-spec : {M : Type 1} → statement M
@@ -224,7 +224,6 @@ start-spec =
     refused-requires-6
     same-length-6
     returns-6
-    are-full-requires
     refused-requires-7
     same-length-7
     returns-7
