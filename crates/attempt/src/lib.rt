@@ -81,12 +81,12 @@ fn decided(line: Record, facts: Facts, choice: Choice, text: &[u8], name: &mut [
 }
 
 // Whether a place is abroad with the home MCC of a text that is well formed.
-fn is_home_abroad(text: Parsed, facts: Facts) -> bool
-    ensures { λ r. ⌜ r ≡ isHomeAbroad (parsed text) (some facts) ⌝ }
+fn is_home_abroad(read: Parsed, facts: Facts) -> bool
+    ensures { λ r. ⌜ r ≡ isHomeAbroad (parsed read) (some facts) ⌝ }
 {
-    let config = text.config;
+    let config = read.config;
     let place = facts.place;
-    text.ok & selection::is_home_abroad(config, place)
+    read.ok & selection::is_home_abroad(config, place)
 }
 
 // Start: the gateway is chosen up to the question that is asked first.
@@ -141,13 +141,13 @@ fn are_bad(replied: u64, networks: &[u8]) -> bool
 }
 
 // Whether a line that waits for the country answer is abroad with the home MCC of a text that is well formed.
-fn waits_home_abroad(text: Parsed, phase: Phase) -> bool
-    ensures { λ r. ⌜ r ≡ isIn Stage.country phase && isHomeAbroad (parsed text) (factsIn phase) ⌝ }
+fn waits_home_abroad(read: Parsed, phase: Phase) -> bool
+    ensures { λ r. ⌜ r ≡ isIn Stage.country phase && isHomeAbroad (parsed read) (factsIn phase) ⌝ }
 {
     let Phase::Country(facts) = phase else {
         return false;
     };
-    is_home_abroad(text, facts)
+    is_home_abroad(read, facts)
 }
 
 // The country answer: a network is chosen of those that are listed or configured.

@@ -12,7 +12,7 @@ is-home-abroad-requires c κs = search needs
 returns : tie.Need-returns
 returns c =
     let a = c .before .before .before .args in
-    ap (λ (b : Bool). a .text .ok && b) (c .before .is-home-abroad .ensures) ∙ sym (home-abroad (a .text) _ refl (a .facts))
+    ap (λ (b : Bool). a .read .ok && b) (c .before .is-home-abroad .ensures) ∙ sym (home-abroad (a .read) _ refl (a .facts))
 
 pub is-home-abroad-spec : {M : Type 1} → statement M
 is-home-abroad-spec = tie.close (tie.spec is-home-abroad-requires returns)
