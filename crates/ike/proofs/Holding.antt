@@ -1,12 +1,12 @@
 -- More holds on a line that has room for them, and a line that congestion releases.
 use Prim.Native.Nat.{ℕ, _<_}
 use mathlib.Core.Bool.{true, false, _||_}
-use mathlib.Core.List.{List, [], append-nil}
+use mathlib.Core.List.{[], append-nil}
 use mathlib.Core.Option.{some}
 use mathlib.Core.Path.{_≡_, refl, sym, ap, _∙_}
 use native.Mathlib.Omega.{arith}
 use lib.Dec.{leb}
-use lib.ListN.{length, take, length-take}
+use lib.ListN.{length}
 use borrow.Author.Tests.{leb-true}
 use Rattle.octets.specs.Row.{isSome}
 use Rattle.octets.proofs.Search.{and-left, and-right, or-other}
@@ -26,11 +26,6 @@ use Rattle.rules.specs.Phases.{underway}
 use Rattle.rules.specs.declared.Action.the-variants.{Released}
 use Rattle.timer.specs.declared.Timer.{Timer}
 use Rattle.ike.specs.Held.{moreHolds}
-
-module _ {A : Type 0} (l : List A) (n : ℕ) where
-  -- the first n elements are fewer than all, so n is within the list
-  pub part-ends : (m : ℕ) → length l ≡ m → length (take n l) < m → n < m
-  part-ends m sized h = omega (arith, length-take n l)
 
 -- a line without more holds is the same
 pub no-more : (x : Line) → x ≡ moreHolds x []

@@ -1,11 +1,10 @@
 -- What the steps on the children of a line have to show: the refusal number of a deletion, the children that stand and the line that has others.
 use Prim.Native.Nat.{ℕ, _+_, _<_}
 use mathlib.Core.Bool.{Bool, true, false}
-use mathlib.Core.List.{List, [], _∷_, _++_, map}
-use mathlib.Core.Path.{_≡_, refl, sym, ap, _∙_, subst}
+use mathlib.Core.List.{List, [], _∷_, _++_}
+use mathlib.Core.Path.{_≡_, refl, ap, _∙_, subst}
 use native.Mathlib.Omega.{arith}
-use lib.ListN.{length, set, take, length-map}
-use lib.Seq.{length-take-le}
+use lib.ListN.{set, take}
 use mir.Val.{Val}
 use denote.Laws.{Is}
 use denote.Struct.Declared.{row}
@@ -17,8 +16,9 @@ use Rattle.children.specs.declared.Child.{Child}
 use Rattle.phase.specs.Stage.{isIn}
 use Rattle.phase.specs.Stage as Stage
 use Rattle.phase.specs.declared.Phase.{Phase}
-use Rattle.record.specs.Line.{Line, lineOf, InArrays}
+use Rattle.record.specs.Line.{Line, lineOf}
 use Rattle.record.specs.declared.Record.{Record}
+use Rattle.record.proofs.Counts.{child-places}
 use Rattle.record.proofs.Record.{the-type}
 use Rattle.rules.specs.Call.{child-deleted}
 use Rattle.rules.specs.Life.{inPhase, withChildren}
@@ -49,22 +49,9 @@ pub gone : (r : Stepped) (x y : Line) (p : Phase) (action : Action) (cs ds : Lis
 unfolding inPhase withChildren
 gone r x y p action cs ds e same g = subst (λ (z : Line). Gives r 0 (inPhase z p) action) (e ∙ ap (withChildren x) same) g
 
--- a list is as long as what a function makes of its elements
-unmapped : (A B : Type 0) (f : A → B) (l : List A) (n : ℕ) → length (map f l) ≡ n → length l ≡ n
-unmapped A B f l n e = sym (length-map l f) ∙ e
-
--- a record that the code holds has room for eight children
+-- a child stored in the first free place of a record stands behind the others
 module _ (x : Record) (vs : List Val) (held : Is (row the-type) x vs) where
-  sized : length (x .children) ≡ mostChildren
-  sized = search (unmapped, held)
-
-  -- its line has as many children as the count says
-  pub child-count : InArrays x → length (lineOf x .children) ≡ x .«child_count»
-  unfolding lineOf
-  child-count h = length-take-le (x .«child_count») (x .children) (omega (arith, sized))
-
-  -- a child stored behind them
   pub child-behind : (child : Child) → x .«child_count» < mostChildren
       → take (x .«child_count» + 1) (set (x .children) (x .«child_count») child) ≡ lineOf x .children ++ child ∷ []
   unfolding lineOf
-  child-behind child h = stored-behind (x .children) (x .«child_count») child (omega (arith, sized))
+  child-behind child h = stored-behind (x .children) (x .«child_count») child (omega (arith, child-places x vs held))

@@ -3,7 +3,6 @@ use crate::ended;
 use crate::is_underway;
 use address::Address;
 use address::End;
-use address::HOLDS;
 use address::Hold;
 use octets::number::MOST_OCTET;
 use phase::MaybeAddress;
@@ -18,10 +17,10 @@ use step::is_late;
 use step::refused;
 use timer::Timer;
 ghost use mathlib.Core.Bool.{true};
-ghost use mathlib.Core.List.{[], _∷_, _++_};
+ghost use mathlib.Core.List.{[], _∷_};
 ghost use mathlib.Core.Path.{_≡_};
-ghost use Prim.Native.Nat.{_+_, _≤_, _<_};
-ghost use lib.ListN.{length, take};
+ghost use Prim.Native.Nat.{_≤_, _<_};
+ghost use lib.ListN.{length};
 ghost use Rattle.address.specs.Address.{mostHolds};
 ghost use Rattle.timer.specs.Timer.{timerOf};
 ghost use Rattle.record.specs.Line.{lineOf, InArrays};
@@ -31,17 +30,6 @@ ghost use Rattle.rules.specs.Life.{timerHold};
 ghost use Rattle.step.specs.Step.{effect, effectIn};
 ghost use Rattle.ike.specs.Held.{moreHolds};
 
-// A list with one hold more, behind the first n, of which there are fewer than it has places.
-fn with_last(list: [Hold; HOLDS], n: usize, hold: Hold) -> [Hold; HOLDS]
-    requires { ⌜ length (take n list) < mostHolds ⌝ }
-    ensures { λ r. ⌜ take (n + 1) r ≡ take n list ++ hold ∷ [] ⌝ }
-    ensures { λ _. ⌜ n < mostHolds ⌝ }
-{
-    let mut longer = list;
-    longer[n] = hold;
-    longer
-}
-
 // A line with one hold more, behind the others.
 fn with_hold(line: Record, hold: Hold) -> Record
     requires { ⌜ InArrays line × (length (lineOf line .holds) < mostHolds) ⌝ }
@@ -49,14 +37,15 @@ fn with_hold(line: Record, hold: Hold) -> Record
     ensures { λ r. ⌜ InArrays r ⌝ }
 {
     let phase = line.phase;
-    let holds = line.holds;
+    let mut holds = line.holds;
+    let n = line.hold_count;
+    holds[n] = hold;
     let children = line.children;
-    let longer = with_last(holds, line.hold_count, hold);
     Record {
         time: line.time,
         phase,
-        holds: longer,
-        hold_count: line.hold_count + 1,
+        holds,
+        hold_count: n + 1,
         children,
         child_count: line.child_count,
     }

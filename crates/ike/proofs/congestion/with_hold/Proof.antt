@@ -1,18 +1,28 @@
--- `ike::congestion::with_hold` meets its contract: the list of holds is longer by the one, and nothing else is another.
+-- `ike::congestion::with_hold` meets its contract: the first free place takes the hold, and nothing else is another.
 use mathlib.Core.List.{List}
 use mathlib.Core.Path.{ap}
 use native.Mathlib.Omega.{arith}
 use lib.ListN.{take}
 use borrow.Author.Needs.{needs}
+use Rattle.octets.proofs.Sublists.{stored-behind}
 use Rattle.address.specs.declared.Hold.{Hold}
 use Rattle.record.specs.Line.{lineOf}
+use Rattle.record.proofs.Counts.{hold-count, hold-places}
 use Rattle.ike.specs.Held.{moreHolds}
 use Rattle.ike.proofs.congestion.with_hold.Statement.{statement}
 use Rattle.ike.proofs.congestion.with_hold.Tie as tie
 
-with-last-requires : tie.Need-with-last-requires
-unfolding lineOf
-with-last-requires c κs = c .before .before .pre .1
+mul-holds : tie.Need-mul-holds
+mul-holds c =
+    let start = c .before in
+    let count = hold-count (start .args .line) _ (start .good .0) (start .pre .0) in
+    search needs
+
+array-set-from-holds : tie.Need-array-set-from-holds
+array-set-from-holds c =
+    let start = c .before in
+    let count = hold-count (start .args .line) _ (start .good .0) (start .pre .0) in
+    search needs
 
 add-t7 : tie.Need-add-t7
 add-t7 c = search needs
@@ -20,13 +30,15 @@ add-t7 c = search needs
 returns : tie.Need-returns
 unfolding lineOf moreHolds
 returns c =
-    let a = c .before .before .before .before .args in
-    let longer = c .before .with-last .ensures in (
+    let start = c .before .before in
+    let line = start .args .line in
+    let count = hold-count line _ (start .good .0) (start .pre .0) in
+    let places = hold-places line _ (start .good .0) in (
       ap
-          (λ (hs : List Hold). record { time = a .line .time; phase = a .line .phase; holds = hs; children = take (a .line .«child_count») (a .line .children) })
-          (longer .0),
-      (omega (arith, longer .1), c .before .before .before .before .pre .0 .1),
+          (λ (hs : List Hold). record { time = line .time; phase = line .phase; holds = hs; children = take (line .«child_count») (line .children) })
+          (stored-behind (line .holds) (line .«hold_count») (start .args .hold) (omega (arith, count, places, start .pre .1))),
+      (omega (arith, count, start .pre .1), start .pre .0 .1),
     )
 
 pub with-hold-spec : {M : Type 1} → statement M
-with-hold-spec = tie.close (tie.spec with-last-requires add-t7 returns)
+with-hold-spec = tie.close (tie.spec mul-holds array-set-from-holds add-t7 returns)
