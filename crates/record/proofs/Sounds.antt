@@ -91,15 +91,15 @@ module _ (l : List ℕ) where
   unfolding listsWritten
   by-children e = sym (rw e)
 
-  pub hold-count : listsWritten l ≡ true → field l 25 1 ≤ 8
+  pub hold-octet : listsWritten l ≡ true → field l 25 1 ≤ 8
   unfolding listsWritten holdsWritten
-  hold-count e =
+  hold-octet e =
       let n = field l 25 1 in
       leb-true n 8 (and-left (leb n 8) (all n (hasAddress l 27)) (and-left (leb n 8 && all n (hasAddress l 27)) _ (and-left (leb n 8 && all n (hasAddress l 27) && zerosAt l (27 + 22 * n) (holdsRoom - 22 * n)) _ e)))
 
-  pub child-count : listsWritten l ≡ true → field l 26 1 ≤ 8
+  pub child-octet : listsWritten l ≡ true → field l 26 1 ≤ 8
   unfolding listsWritten childrenWritten
-  child-count e =
+  child-octet e =
       let n = field l 26 1 in
       leb-true n 8 (and-left (leb n 8) _ (and-right (holdsWritten l 27 (field l 25 1)) (leb n 8 && zerosAt l (childrenPlace + 5 * n) (40 - 5 * n)) e))
 

@@ -14,7 +14,7 @@ use Rattle.octets.specs.Search.{all, least}
 use Rattle.octets.proofs.Search.{and-false, all-fails, each-all, least-bound, least-first, least-found, least-more, least-passes}
 use Rattle.record.specs.Octets.{recordLength}
 use Rattle.record.specs.Sound.{isRecord}
-use Rattle.record.proofs.Sounds.{child-count, hold-count, record-lists}
+use Rattle.record.proofs.Sounds.{child-octet, hold-octet, record-lists}
 use Rattle.table.specs.Table.{hasPair, isTable, lacksPair, pairAt, pairOnce, slot, slotSound, tableLength}
 
 module _ (l : List ℕ) (i : ℕ) where
@@ -90,4 +90,4 @@ module _ (l : List ℕ) where
 pub slot-reads : (s t : List ℕ) → s ≡ t → length s ≡ recordLength → isRecord t ≡ true → (recordLength ≤ length s) × (field s 25 1 ≤ 8) × (field s 26 1 ≤ 8)
 slot-reads s t e size sound =
     let lists = record-lists s (ap isRecord e ∙ sound) in
-    (omega arith, hold-count s lists, child-count s lists)
+    (omega arith, hold-octet s lists, child-octet s lists)

@@ -4,7 +4,7 @@ use mathlib.Core.Path.{sym, _∙_, subst}
 use borrow.Author.Tests.{not-true, not-false}
 use borrow.Author.Needs.{needs}
 use Rattle.record.specs.Line.{lineOf}
-use Rattle.record.proofs.Sounds.{no-pair, past-pairs, no-phase, lists-unwritten, by-lists, hold-count, child-count}
+use Rattle.record.proofs.Sounds.{no-pair, past-pairs, no-phase, lists-unwritten, by-lists, hold-octet, child-octet}
 use Rattle.record.proofs.sound.is_record.Statement.{statement}
 use Rattle.record.proofs.sound.is_record.Tie as tie
 
@@ -32,7 +32,7 @@ returns-4 c = lists-unwritten _ (subst (λ (k : ℕ). 1 ≤ k) (c .before .befor
 read-record-requires : tie.Need-read-record-requires
 read-record-requires c κs =
     let written = sym (c .before .is-written .ensures) ∙ not-false _ (c .if4 .left) in
-    (c .before .before .before .before .before .before .before .before .pre, hold-count _ written, child-count _ written)
+    (c .before .before .before .before .before .before .before .before .pre, hold-octet _ written, child-octet _ written)
 
 are-lists-requires : tie.Need-are-lists-requires
 are-lists-requires c κs = search needs
