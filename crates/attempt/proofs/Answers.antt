@@ -1,7 +1,7 @@
 -- What a step answers that may ask a name, by its refusal number.
-use Prim.Native.Nat.{ℕ, suc}
+use Prim.Native.Nat.{ℕ, zero, suc}
 use mathlib.Core.List.{List, []}
-use mathlib.Core.Path.{_≡_, ap, ap₂, _∙_}
+use mathlib.Core.Path.{_≡_, refl, ap, ap₂, _∙_}
 use native.Mathlib.Omega.{arith}
 use lib.Dec.{ltb}
 use Rattle.octets.specs.Part.{padded, part, zeros}
@@ -43,6 +43,12 @@ module _ (e : Event) (time : ℕ) (line f : Record) (r : Stepped) (text name : L
     ap₂ (effectIn r) (no-part (r .action) (g .action-is) text name) empty ∙ turned-away e time line f r is-found n number g,
     (none-within (r .action) (g .action-is) text name, g .in-arrays),
   )
+
+  -- the same by a number that is not 0
+  pub turned-back : (n : ℕ) → (n ≡ 0 → ⊥) → refusal (refusalsOf e (ltb lastTime time) (lineOf f)) ≡ n → name ≡ zeros (eventRoom e)
+      → Gives r n (lineOf line) Action.Nothing → Answers e time line r text name
+  turned-back zero some-is number empty g = absurd (some-is refl)
+  turned-back (suc n) some-is number empty g = sent-back n number empty g
 
   -- it is accepted
   pub carried-out : refusal (refusalsOf e (ltb lastTime time) (lineOf f)) ≡ 0 → (o : Outcome) → outcome e (lineOf f) ≡ o → (room : ℕ) → room ≡ eventRoom e

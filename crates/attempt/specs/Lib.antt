@@ -1,2 +1,3 @@
--- What the steps of an attempt answer.
+-- What the steps of an attempt answer, and what they read of a lent text.
 pub mod Attempt
+pub mod Lent

@@ -1,10 +1,13 @@
 // A line's attempt to reach a gateway, from start to the chosen address.
 mod given;
+mod lent;
 
+use crate::given::facts_of;
+use crate::given::numbers_fit;
+use crate::lent::MaybeFacts;
+use crate::lent::awaiting;
+use crate::lent::read;
 use address::HOLDS;
-use config::MOST_TEXT;
-use config::Parsed;
-use config::parse::parse;
 use gateway::Found;
 use gateway::choose;
 use gateway::choose_one;
@@ -26,23 +29,17 @@ use step::current;
 use step::goes;
 use step::is_late;
 use step::refused;
-ghost use mathlib.Core.Bool.{_&&_};
 ghost use mathlib.Core.List.{[]};
-ghost use mathlib.Core.Option.{some};
 ghost use mathlib.Core.Path.{_≡_};
 ghost use Prim.Native.Nat.{_≤_};
 ghost use lib.ListN.{length};
-ghost use Rattle.config.specs.Settings.{parsed};
 ghost use Rattle.network.specs.Name.{nameRoom};
-ghost use Rattle.phase.specs.Stage as Stage;
-ghost use Rattle.phase.specs.Stage.{isIn};
 ghost use Rattle.query.specs.Query.{TextWithin};
 ghost use Rattle.record.specs.Line.{lineOf, InArrays};
 ghost use Rattle.rules.specs.Answer.{numbersOf, partNamed, PartWithin};
 ghost use Rattle.rules.specs.Call.{address, country, start};
 ghost use Rattle.rules.specs.Life.{decided, gatewayFound};
-ghost use Rattle.rules.specs.Phases.{factsIn};
-ghost use Rattle.rules.specs.Refusals.{badNetworks, isHomeAbroad};
+ghost use Rattle.rules.specs.Refusals.{badNetworks};
 ghost use Rattle.step.specs.Step.{effect, effectIn, Gives};
 ghost use Rattle.attempt.specs.Attempt.{Says};
 
@@ -80,15 +77,6 @@ fn decided(line: Record, facts: Facts, choice: Choice, text: &[u8], name: &mut [
     }
 }
 
-// Whether a place is abroad with the home MCC of a text that is well formed.
-fn is_home_abroad(read: Parsed, facts: Facts) -> bool
-    ensures { λ r. ⌜ r ≡ isHomeAbroad (parsed read) (some facts) ⌝ }
-{
-    let config = read.config;
-    let place = facts.place;
-    read.ok & selection::is_home_abroad(config, place)
-}
-
 // Start: the gateway is chosen up to the question that is asked first.
 pub fn start(line: Record, time: u64, given: StartNumbers, text: &[u8], name: &mut [u8]) -> Stepped
     requires { ⌜ InArrays line × (nameRoom ≤ length (now name)) ⌝ }
@@ -98,22 +86,13 @@ pub fn start(line: Record, time: u64, given: StartNumbers, text: &[u8], name: &m
 {
     zero(name);
     let found = current(line, time);
-    if is_late(time) {
+    if is_late(time) | !numbers_fit(given) {
         return refused(line, 8);
     }
-    if !given::numbers_fit(given) {
-        return refused(line, 8);
-    }
-    if MOST_TEXT < text.len() {
-        return refused(line, 8);
-    }
-    let parsed = parse(text);
-    let facts = given::facts_of(given);
-    if is_home_abroad(parsed, facts) {
-        return refused(line, 8);
-    }
-    if !parsed.ok {
-        return refused(line, 9);
+    let facts = facts_of(given);
+    let lent = read(text, MaybeFacts::Are(facts));
+    if lent.refusal != 0 {
+        return refused(line, lent.refusal);
     }
     let phase = found.phase;
     if number(phase) != IDLE {
@@ -122,7 +101,7 @@ pub fn start(line: Record, time: u64, given: StartNumbers, text: &[u8], name: &m
     if HOLDS <= found.hold_count {
         return refused(line, 13);
     }
-    let config = parsed.config;
+    let config = lent.config;
     let choice = selection::start(config, facts);
     decided(found, facts, choice, text, name)
 }
@@ -138,16 +117,6 @@ fn are_bad(replied: u64, networks: &[u8]) -> bool
         return true;
     }
     (replied == 0) & (0 < networks.len())
-}
-
-// Whether a line that waits for the country answer is abroad with the home MCC of a text that is well formed.
-fn waits_home_abroad(read: Parsed, phase: Phase) -> bool
-    ensures { λ r. ⌜ r ≡ isIn Stage.country phase && isHomeAbroad (parsed read) (factsIn phase) ⌝ }
-{
-    let Phase::Country(facts) = phase else {
-        return false;
-    };
-    is_home_abroad(read, facts)
 }
 
 // The country answer: a network is chosen of those that are listed or configured.
@@ -166,27 +135,18 @@ pub fn country_answer(
 {
     zero(name);
     let found = current(line, time);
-    if is_late(time) {
+    if is_late(time) | are_bad(replied, networks) {
         return refused(line, 8);
     }
-    if are_bad(replied, networks) {
-        return refused(line, 8);
-    }
-    if MOST_TEXT < text.len() {
-        return refused(line, 8);
-    }
-    let parsed = parse(text);
     let phase = found.phase;
-    if waits_home_abroad(parsed, phase) {
-        return refused(line, 8);
-    }
-    if !parsed.ok {
-        return refused(line, 9);
+    let lent = read(text, awaiting(phase));
+    if lent.refusal != 0 {
+        return refused(line, lent.refusal);
     }
     let Phase::Country(facts) = phase else {
         return refused(line, 10);
     };
-    let config = parsed.config;
+    let config = lent.config;
     let choice = selection::country(config, facts, replied == 1, networks);
     decided(found, facts, choice, text, name)
 }

@@ -97,7 +97,7 @@ fn home_of(e: Entry) -> MaybePlmn
 }
 
 // The answer for a text that is not well formed.
-fn ill_formed() -> Parsed
+pub fn ill_formed() -> Parsed
     ensures { λ r. ⌜ parsed r ≡ none ⌝ }
     ensures { λ r. ⌜ Anywhere (r .config) ⌝ }
 {
