@@ -12,6 +12,8 @@ use octets::slice::zero;
 use phase::Phase;
 use phase::chosen;
 use record::Record;
+use rules::LINES;
+use rules::pair_of;
 use table::RECORDS;
 use table::read_slot;
 use table::record_of;
@@ -26,22 +28,11 @@ ghost use Rattle.record.specs.Line.{lineOf};
 ghost use Rattle.record.specs.Sound.{lastLine, lastTenant};
 ghost use Rattle.table.specs.Slots.{slotsOf};
 ghost use Rattle.table.specs.Table.{isTable};
-ghost use Rattle.rules.specs.Call.{listingRoom, pairOf};
+ghost use Rattle.rules.specs.Call.{listingRoom};
 ghost use Rattle.rules.specs.Listing.{childText, lineText};
 ghost use Rattle.rules.specs.View.{ownLine};
 ghost use Rattle.listing.specs.Branch.{Fits, Put, headText, openText, tailText};
 ghost use Rattle.listing.specs.Listed.{listingOf};
-
-// How many lines a tenant has.
-const LINES: u64 = 4;
-
-// The number of a pair of a tenant and a line.
-fn pair_of(tenant: u64, line: u64) -> u64
-    requires { ⌜ (tenant ≤ lastTenant) × (line ≤ lastLine) ⌝ }
-    ensures { λ r. ⌜ r ≡ pairOf tenant line ⌝ }
-{
-    LINES * tenant + line + 1
-}
 
 // Stores the record of a child of a line and returns the place behind it.
 fn put_child(buffer: &mut [u8], at: usize, line: u64, child: Child) -> usize

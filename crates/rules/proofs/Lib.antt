@@ -7,6 +7,7 @@ pub mod Children
 pub mod Current
 pub mod Eap
 pub mod Ends
+pub mod Found
 pub mod Goes
 pub mod Histories
 pub mod Isolation

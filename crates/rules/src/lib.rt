@@ -1,5 +1,9 @@
 // The rules of document 01, what they ask of the daemon, and what is claimed of them.
 use address::Address;
+ghost use mathlib.Core.Path.{_≡_};
+ghost use Prim.Native.Nat.{_≤_};
+ghost use Rattle.record.specs.Sound.{lastLine, lastTenant};
+ghost use Rattle.rules.specs.Call.{pairOf};
 ghost use Rattle.rules.specs.Claims.{Claims};
 
 // The numbers of a start: the place and the visited MCC, whether registered and to which PLMN, the local IP version.
@@ -40,6 +44,17 @@ pub enum Action {
     ErrorUp(u64, u64),
     // So many octets of the listing are written.
     Listed(usize),
+}
+
+// How many lines a tenant has.
+pub const LINES: u64 = 4;
+
+// The number of a pair of a tenant and a line.
+pub fn pair_of(tenant: u64, line: u64) -> u64
+    requires { ⌜ (tenant ≤ lastTenant) × (line ≤ lastLine) ⌝ }
+    ensures { λ r. ⌜ r ≡ pairOf tenant line ⌝ }
+{
+    LINES * tenant + line + 1
 }
 
 // Does nothing; its promise is every claim about the rules.

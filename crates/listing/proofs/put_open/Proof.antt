@@ -3,7 +3,8 @@ use mathlib.Core.Path.{sym}
 use native.Mathlib.Omega.{arith}
 use borrow.Author.Needs.{needs}
 use Rattle.table.proofs.Puts.{table-length}
-use Rattle.listing.proofs.Lines.{is-open, is-record, none-open}
+use Rattle.rules.proofs.Found.{record-there}
+use Rattle.listing.proofs.Lines.{is-open, none-open}
 use Rattle.listing.proofs.Puts.{fits-as, put-as, put-none}
 use Rattle.listing.proofs.put_open.Statement.{statement}
 use Rattle.listing.proofs.put_open.Tie as tie
@@ -30,7 +31,7 @@ read-slot-requires c κs =
     let start = number .before .before .before in
     let a = start .args in
     let within = c .before .if1 .left in
-    (omega (arith, table-length (a .table .now) (start .pre .0)), is-record (a .table .now) (a .tenant) (a .line) (number .pair-of .ensures) (found .record-of .ensures .0) within (start .pre .0))
+    (omega (arith, table-length (a .table .now) (start .pre .0)), record-there (a .table .now) (a .tenant) (a .line) (number .pair-of .ensures) (found .record-of .ensures .0) within (start .pre .0))
 
 put-line-requires : tie.Need-put-line-requires
 put-line-requires c κs =

@@ -1,9 +1,9 @@
--- `listing::pair_of` meets its contract: pairs are numbered from 1 on, line by line.
+-- `rules::pair_of` meets its contract: pairs are numbered from 1 on, line by line.
 use native.Mathlib.Omega.{arith}
 use borrow.Author.Needs.{needs}
 use Rattle.rules.specs.Call.{pairOf}
-use Rattle.listing.proofs.pair_of.Statement.{statement}
-use Rattle.listing.proofs.pair_of.Tie as tie
+use Rattle.rules.proofs.pair_of.Statement.{statement}
+use Rattle.rules.proofs.pair_of.Tie as tie
 
 mul-result : tie.Need-mul-result
 mul-result c = search needs
