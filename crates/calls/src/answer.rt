@@ -1,0 +1,63 @@
+// The twelve numbers of an answer.
+use address::Address;
+use address::version;
+use rules::Action;
+ghost use mathlib.Core.Path.{_≡_};
+ghost use Rattle.address.specs.Address.{high, low};
+ghost use Rattle.rules.specs.Answer.{numbersOf};
+
+// The 128 bits of an address, as two halves.
+struct Bits {
+    high: u64,
+    low: u64,
+}
+
+// The upper and the lower 64 bits of an address.
+fn halves(a: Address) -> Bits
+    ensures { λ r. ⌜ (r .high ≡ high a) × (r .low ≡ low a) ⌝ }
+{
+    match a {
+        Address::V4(x) => Bits { high: 0, low: x },
+        Address::V6(high, low) => Bits { high, low },
+    }
+}
+
+// The twelve numbers of an action.
+pub fn numbers(action: Action) -> [u64; 12]
+    ensures { λ r. ⌜ r ≡ numbersOf action ⌝ }
+{
+    match action {
+        Action::Nothing => [0; 12],
+        Action::Stopped(n, k) => [1, n, k as u64, 0, 0, 0, 0, 0, 0, 0, 0, 0],
+        Action::AskCountry(n) => [2, 0, 0, 2, 0, n as u64, 0, 0, 0, 0, 0, n as u64],
+        Action::AskText(at, n) => [3, 0, 0, 1, at as u64, n as u64, 0, 0, 0, 0, 0, 0],
+        Action::AskBuilt(n) => [3, 0, 0, 2, 0, n as u64, 0, 0, 0, 0, 0, n as u64],
+        Action::Chose(a, k) => {
+            let bits = halves(a);
+            [
+                4,
+                0,
+                k as u64,
+                0,
+                0,
+                0,
+                version(a),
+                bits.high,
+                bits.low,
+                0,
+                0,
+                0,
+            ]
+        }
+        Action::SendInit => [5, 0, 0, 0, 0, 0, 0, 0, 0, 0, 0, 0],
+        Action::SendAuthRequest => [6, 0, 0, 0, 0, 0, 0, 0, 0, 0, 0, 0],
+        Action::AskNas => [7, 0, 0, 0, 0, 0, 0, 0, 0, 0, 0, 0],
+        Action::HandUp(at, n) => [8, 0, 0, 3, at as u64, n as u64, 0, 0, 0, 0, 0, 0],
+        Action::SendResponse(n) => [9, 0, 0, 0, 0, 0, 0, 0, 0, 0, 0, n as u64],
+        Action::SendAuth => [10, 0, 0, 0, 0, 0, 0, 0, 0, 0, 0, 0],
+        Action::Live => [11, 0, 0, 0, 0, 0, 0, 0, 0, 0, 0, 0],
+        Action::Released(ended) => [12, 0, 0, 0, 0, 0, 0, 0, 0, ended, 0, 0],
+        Action::ErrorUp(ended, n) => [13, 0, 0, 0, 0, 0, 0, 0, 0, ended, n, 0],
+        Action::Listed(n) => [0, 0, 0, 0, 0, 0, 0, 0, 0, 0, 0, n as u64],
+    }
+}
