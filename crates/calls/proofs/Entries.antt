@@ -22,7 +22,7 @@ use Rattle.rules.specs.Run.{run, settled, stepOf}
 use Rattle.rules.specs.View.{View, lineOr, lineSeen, ownLine, viewIn, viewOf}
 use Rattle.rules.proofs.Accepted.{found-sound, own-is, pair-low}
 use Rattle.step.proofs.Running.{effect-run}
-use Rattle.calls.specs.Entry.{Enters, Passes, firstRefusals}
+use Rattle.calls.specs.Entry.{Enters, firstRefusals}
 use Rattle.calls.specs.declared.Entered.{Entered}
 
 pub above-last : (tenant line : ℕ) → isAboveLast tenant line ≡ leb 16 tenant || leb 4 line

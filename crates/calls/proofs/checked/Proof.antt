@@ -1,6 +1,5 @@
 -- `calls::checked` meets its contract: the tests stand in the order of their numbers.
-use mathlib.Core.Bool.{Bool, not, _||_}
-use mathlib.Core.Path.{sym, ap, _∙_}
+use mathlib.Core.Path.{_∙_}
 use borrow.Author.Needs.{needs}
 use Rattle.octets.specs.Refusal.{refusal}
 use Rattle.calls.specs.Entry.{firstRefusals}

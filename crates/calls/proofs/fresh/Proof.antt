@@ -1,7 +1,6 @@
 -- `calls::fresh` meets its contract.
 use Prim.Native.Nat.{zero-le}
 use mathlib.Core.Path.{refl}
-use lib.ListN.{take}
 use Rattle.record.specs.Line.{lineOf}
 use Rattle.rules.specs.View.{fresh}
 use Rattle.calls.proofs.fresh.Statement.{statement}

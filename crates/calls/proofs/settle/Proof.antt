@@ -1,5 +1,5 @@
 -- `calls::settle` meets its contract: only an accepted step is stored.
-use mathlib.Core.Path.{refl, sym, ap, _∙_}
+use mathlib.Core.Path.{refl, sym}
 use borrow.Author.Needs.{needs}
 use Rattle.calls.proofs.Stores.{kept, stored}
 use Rattle.calls.proofs.settle.Statement.{statement}
