@@ -1,0 +1,3 @@
+-- What the calls without a table answer.
+pub mod Packets
+pub mod Examples
