@@ -7,13 +7,14 @@ use Rattle.octets.specs.Row.{joined}
 use Rattle.address.specs.declared.Address.{Address}
 use Rattle.address.specs.declared.Address.the-variants.{V4, V6}
 use Rattle.addresses.specs.Addresses.{addressOctets}
-use Rattle.eap.specs.Packet.{packetNumbers, readPacket}
+use Rattle.eap.specs.Packet.{packetNumbers}
 use Rattle.gateway.specs.Gateway.{choose, foundNumbers}
 use Rattle.lists.specs.Lists.{addressesIn}
 use Rattle.network.specs.Name.{operatorName, visitedName}
-use Rattle.response.specs.Response.{response}
+use Rattle.packets.specs.Packets.{PacketAnswer, fieldsOnly, readRequest, readTimer, requestAnswer, unlessRefused, writeResponse, writtenPacket}
+use Rattle.response.specs.Response.{outOfRange, writeRefusal, written}
 use Rattle.text.specs.Text.{text}
-use Rattle.timer.specs.Timer.{timerNumbers, timerOf}
+use Rattle.timer.specs.Timer.{timerNumbers}
 use Rattle.rules.specs.Answer.{Answer, twelve}
 use Rattle.rules.specs.Call.{start, address, eap, Call, listing}
 use Rattle.rules.specs.Cases.{atHome, congest, named, node, now, own, shown, toAnswered, toFirst, toIdle, toName}
@@ -40,22 +41,28 @@ unfoldable pub buffers : List Call → List Call → List ℕ
 unfolding answersAfter bufferOf
 buffers before calls = joined bufferOf (answersAfter before calls)
 
+-- the refusal number and the six numbers of a call without a table
+unfoldable pub packetGist : PacketAnswer → List ℕ
+unfolding fieldsOnly outOfRange packetNumbers readRequest readTimer requestAnswer timerNumbers unlessRefused writeRefusal writeResponse written
+    writtenPacket
+packetGist a = a .refusal ∷ a .fields
+
 -- 2001:db8::1, 192.0.2.1 and 192.0.2.7
 unfoldable pub three : List Address
 three = V6 0x20010db800000000 1 ∷ V4 0xc0000201 ∷ V4 0xc0000207 ∷ []
 
 unfoldable pub starred : List StarredExample
-unfolding atHome buffers congest counted foundNumbers gists named node now own packetNumbers shown three timerNumbers toAnswered toFirst
-    toIdle toName twelve
+unfolding atHome buffers congest counted foundNumbers gists named node now own packetGist shown three toAnswered toFirst toIdle toName
+    twelve
 starred =
     -- timer 61 hex: 2 s
-    record { gives = timerNumbers (timerOf 0x61); says = padded 6 (1 ∷ 2 ∷ []) }
+    record { gives = packetGist (readTimer 0x61); says = 0 ∷ padded 6 (1 ∷ 2 ∷ []) }
     -- 00: none
-    ∷ record { gives = timerNumbers (timerOf 0x00); says = zeros 6 }
+    ∷ record { gives = packetGist (readTimer 0x00); says = 0 ∷ zeros 6 }
     -- E0: deactivated
-    ∷ record { gives = timerNumbers (timerOf 0xE0); says = padded 6 (2 ∷ []) }
+    ∷ record { gives = packetGist (readTimer 0xE0); says = 0 ∷ padded 6 (2 ∷ []) }
     -- DF: 35,712,000 s
-    ∷ record { gives = timerNumbers (timerOf 0xDF); says = padded 6 (1 ∷ 35_712_000 ∷ []) }
+    ∷ record { gives = packetGist (readTimer 0xDF); says = 0 ∷ padded 6 (1 ∷ 35_712_000 ∷ []) }
     -- congestion 61 at time 100: held at 101, so that a `node` address stops with 4, 1 passed over; free at 102
     ∷ record {
       gives = gists (toIdle ++ congest 100 0xc0000207 0x61) (own 101 (start atHome node 64) ∷ own 102 (start atHome node 64) ∷ []);
@@ -84,15 +91,19 @@ starred =
     -- Start, identifier 7
     ∷ record {
       gives =
-          packetNumbers (readPacket (0x01 ∷ 0x07 ∷ 0x00 ∷ 0x0E ∷ 0xFE ∷ 0x00 ∷ 0x28 ∷ 0xAF ∷ 0x00 ∷ 0x00 ∷ 0x00 ∷ 0x03 ∷ 0x01 ∷ 0x00 ∷ []));
-      says = padded 6 (1 ∷ 7 ∷ []);
+          packetGist (readRequest (0x01 ∷ 0x07 ∷ 0x00 ∷ 0x0E ∷ 0xFE ∷ 0x00 ∷ 0x28 ∷ 0xAF ∷ 0x00 ∷ 0x00 ∷ 0x00 ∷ 0x03 ∷ 0x01 ∷ 0x00 ∷ []));
+      says = 0 ∷ padded 6 (1 ∷ 7 ∷ []);
     }
     -- later reply 7, no AN, NAS 7E
     ∷ record {
-      gives = response 7 [] (0x7E ∷ []);
+      gives = packetGist (writeResponse 7 [] (0x7E ∷ []) 3090);
+      says = 0 ∷ 2 ∷ 7 ∷ 16 ∷ 0 ∷ 18 ∷ 1 ∷ [];
+    }
+    ∷ record {
+      gives = writeResponse 7 [] (0x7E ∷ []) 3090 .buffer;
       says =
-          0x02 ∷ 0x07 ∷ 0x00 ∷ 0x13 ∷ 0xFE ∷ 0x00 ∷ 0x28 ∷ 0xAF ∷ 0x00 ∷ 0x00 ∷ 0x00 ∷ 0x03 ∷ 0x02 ∷ 0x00 ∷ 0x00 ∷ 0x00 ∷ 0x00 ∷ 0x01 ∷ 0x7E
-          ∷ [];
+          padded 3090
+          (0x02 ∷ 0x07 ∷ 0x00 ∷ 0x13 ∷ 0xFE ∷ 0x00 ∷ 0x28 ∷ 0xAF ∷ 0x00 ∷ 0x00 ∷ 0x00 ∷ 0x03 ∷ 0x02 ∷ 0x00 ∷ 0x00 ∷ 0x00 ∷ 0x00 ∷ 0x01 ∷ 0x7E ∷ []);
     }
     -- Success `03 07 00 04` while 7 is owed: 10
     ∷ record { gives = gists toFirst (now (eap (0x03 ∷ 0x07 ∷ 0x00 ∷ 0x04 ∷ [])) ∷ []); says = 10 ∷ zeros 12 }
