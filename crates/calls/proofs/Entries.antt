@@ -74,6 +74,11 @@ module _ (l : List ℕ) (tenant line : ℕ) (short : Bool) (n : ℕ) (number : n
     pub is-long : short ≡ false
     is-long = tests .2
 
+-- the line that a call sees is the one of its pair
+pub line-seen : (c : Call) (l : List ℕ) (line : ℕ) → isAboveLast (tenantOf c) line ≡ false → lineSeen (viewIn c l) line ≡ ownLine (tenantOf c) (slotsOf l) line
+unfolding ownLine viewIn
+line-seen c l line pair-is = own-is (tenantOf c) line pair-is (slotsOf l) (isTable l)
+
 -- a timed call that none of the first three refuses
 module _ (tenant line time : ℕ) (e : Event) (v : View) (sound : v .sound ≡ true) (pair-is : isNoPair (timed tenant line time e) ≡ false)
     (long : isShort (timed tenant line time e) ≡ false) where
@@ -114,8 +119,8 @@ module _ (tenant line time : ℕ) (short : Bool) (l : List ℕ) (r : Entered) wh
       long = is-long l tenant line short n number none-is
 
       seen : (o : Option Line) (e : Event) → ownLine tenant (slotsOf l) line ≡ o → lineSeen (viewIn (call e) l) line ≡ o
-      unfolding ownLine viewIn tenantOf
-      seen o e there = own-is tenant line pair-is (slotsOf l) (isTable l) ∙ there
+      unfolding tenantOf
+      seen o e there = line-seen (call e) l line pair-is ∙ there
 
       -- the pair isn't open
       pub by-closed : ownLine tenant (slotsOf l) line ≡ none → r .refusal ≡ 5 → Enters r tenant line time short l

@@ -1,0 +1,4 @@
+-- What the exported calls return.
+pub mod Lists
+pub mod Opens
+pub mod Timed

@@ -1,0 +1,18 @@
+-- `scaltrovina::signalling::scal_congestion` meets its contract.
+use borrow.Author.Needs.{needs}
+use Rattle.ike.specs.Events.{eventOf}
+use Rattle.scaltrovina.proofs.signalling.scal_congestion.Statement.{statement}
+use Rattle.scaltrovina.proofs.signalling.scal_congestion.Tie as tie
+
+on-line-requires : tie.Need-on-line-requires
+on-line-requires c κs = search needs
+
+same-length : tie.Need-same-length
+same-length c = search needs
+
+returns : tie.Need-returns
+unfolding eventOf
+returns c = c .before .before .on-line .ensures
+
+pub scal-congestion-spec : {M : Type 1} → statement M
+scal-congestion-spec = tie.close (tie.spec on-line-requires same-length returns)

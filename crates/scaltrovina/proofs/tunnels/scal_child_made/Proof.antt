@@ -1,0 +1,18 @@
+-- `scaltrovina::tunnels::scal_child_made` meets its contract.
+use borrow.Author.Needs.{needs}
+use Rattle.ike.specs.Events.{eventOf}
+use Rattle.scaltrovina.proofs.tunnels.scal_child_made.Statement.{statement}
+use Rattle.scaltrovina.proofs.tunnels.scal_child_made.Tie as tie
+
+on-line-requires : tie.Need-on-line-requires
+on-line-requires c κs = search needs
+
+same-length : tie.Need-same-length
+same-length c = search needs
+
+returns : tie.Need-returns
+unfolding eventOf
+returns c = c .before .before .on-line .ensures
+
+pub scal-child-made-spec : {M : Type 1} → statement M
+scal-child-made-spec = tie.close (tie.spec on-line-requires same-length returns)

@@ -1,0 +1,94 @@
+// Opening, closing and listing lines.
+use calls::answer::numbers;
+use calls::checked;
+use calls::fresh;
+use listing::list;
+use octets::slice::zero;
+use rules::Action;
+use rules::pair_of;
+use table::RECORDS;
+use table::TABLE;
+use table::erase;
+use table::record_of;
+use table::store;
+ghost use mathlib.Core.List.{[]};
+ghost use mathlib.Core.Path.{_≡_};
+ghost use lib.ListN.{length};
+ghost use Rattle.table.specs.Table.{tableLength};
+ghost use Rattle.rules.specs.Call as Call;
+ghost use Rattle.rules.specs.Call.{closing, opening};
+ghost use Rattle.rules.specs.Run.{run};
+ghost use Rattle.scaltrovina.specs.Returned.{returned};
+
+// The smallest buffer that a listing is written to.
+const LISTING_ROOM: usize = 1024;
+
+// The number of a free record in the place of a pair's.
+const FREE: u64 = 0;
+
+// The length of a sound table; zeros of this length are the empty one.
+#[no_mangle]
+pub extern "C" fn scal_table_length() -> u64
+    ensures { λ r. ⌜ r ≡ tableLength ⌝ }
+{
+    TABLE as u64
+}
+
+// Opens a line in the free record of the lowest number.
+#[no_mangle]
+pub extern "C" fn scal_open(table: &mut [u8], tenant: u64, line: u64) -> u64
+    ensures { λ r. ⌜ returned r [] [] [] (now (table .exit)) ≡ run (opening tenant line) (now (table .entry)) ⌝ }
+{
+    let number = checked(table, tenant, line, false);
+    if number != 0 {
+        return number;
+    }
+    let pair = pair_of(tenant, line);
+    if record_of(table, pair) < RECORDS {
+        return 4;
+    }
+    let at = record_of(table, FREE);
+    if RECORDS <= at {
+        return 6;
+    }
+    store(table, at, pair, fresh());
+    0
+}
+
+// Closes a line: its record is free, and all zeros.
+#[no_mangle]
+pub extern "C" fn scal_close(table: &mut [u8], tenant: u64, line: u64) -> u64
+    ensures { λ r. ⌜ returned r [] [] [] (now (table .exit)) ≡ run (closing tenant line) (now (table .entry)) ⌝ }
+{
+    let number = checked(table, tenant, line, false);
+    if number != 0 {
+        return number;
+    }
+    let at = record_of(table, pair_of(tenant, line));
+    if RECORDS <= at {
+        return 5;
+    }
+    erase(table, at);
+    0
+}
+
+// Lists a tenant's lines.
+#[no_mangle]
+pub extern "C" fn scal_list(
+    table: &[u8],
+    tenant: u64,
+    listing: &mut [u8],
+    answer: &mut [u64; 12],
+) -> u64
+    ensures { λ r. ⌜ returned r (now (answer .exit)) [] (now (listing .exit)) (now (table .entry)) ≡ run (Call.listing tenant (length (now (listing .entry)))) (now (table .entry)) ⌝ }
+{
+    let number = checked(table, tenant, 0, listing.len() < LISTING_ROOM);
+    if number != 0 {
+        zero(listing);
+        *answer = [0; 12];
+        return number;
+    }
+    let written = list(table, tenant, listing);
+    *answer = numbers(Action::Listed(written));
+    0
+}
