@@ -33,10 +33,11 @@ module _ (l : List ℕ) (tenant room n : ℕ) (number : n ≡ refusal (firstRefu
   abbrev lists : Call
   lists = listing tenant room
 
-  pub list-at-first : (n ≡ 0 → ⊥) → (buffer : List ℕ) → buffer ≡ zeros room → returned n (zeros numberCount) [] buffer l ≡ run lists l
+  pub list-at-first : (n ≡ 0 → ⊥) → (k : ℕ) (numbers buffer : List ℕ) → k ≡ n → numbers ≡ zeros numberCount → buffer ≡ zeros room
+      → returned k numbers [] buffer l ≡ run lists l
   unfolding returned refused isShort roomOf leastRoom
-  list-at-first h buffer cleared =
-      rw cleared (sym (refused-by lists l n h (refused-at-first l tenant 0 (ltb room listingRoom) n number lists (no-line tenant room) refl h)))
+  list-at-first h k numbers buffer is none cleared =
+      rw (is, none, cleared) (sym (refused-by lists l n h (refused-at-first l tenant 0 (ltb room listingRoom) n number lists (no-line tenant room) refl h)))
 
   module _ (none-is : n ≡ 0) where
     sound : isTable l ≡ true

@@ -48,10 +48,10 @@ never-short tenant line time e = rw (buffer-none e .0, buffer-none e .1)
 
 module _ (tenant line time : ℕ) (e : Event) (short : Bool) (l : List ℕ) (r : Entered) (room-is : isShort (timed tenant line time e) ≡ short) where
   -- refused at its entry: zeros everywhere, and the table as it was
-  pub turned-away : Enters r tenant line time short l → (r .refusal ≡ 0 → ⊥) → (buffer : List ℕ) → buffer ≡ zeros (eventRoom e)
-      → returned (r .refusal) (zeros numberCount) [] buffer l ≡ run (timed tenant line time e) l
+  pub turned-away : Enters r tenant line time short l → (r .refusal ≡ 0 → ⊥) → (n : ℕ) (numbers buffer : List ℕ)
+      → n ≡ r .refusal → numbers ≡ zeros numberCount → buffer ≡ zeros (eventRoom e) → returned n numbers [] buffer l ≡ run (timed tenant line time e) l
   unfolding returned refused
-  turned-away enters h buffer cleared = rw cleared (sym (enters .refused-is h e room-is))
+  turned-away enters h n numbers buffer number none cleared = rw (number, none, cleared) (sym (enters .refused-is h e room-is))
 
   -- what the step answers and leaves
   pub taken : Passes r tenant line time short l → (s : Stepped) (part buffer : List ℕ) → effectIn s part buffer ≡ effect e time (lineOf (r .line))
@@ -66,10 +66,11 @@ module _ (tenant line time : ℕ) (e : Event) (short : Bool) (l : List ℕ) (r :
     Named n numbers buffer table =
         (returned n numbers (partNamed numbers text name packet) buffer table ≡ run (timed tenant line time e) l) × PartWithin numbers text name packet
 
-    pub turned-away-named : Enters r tenant line time short l → (r .refusal ≡ 0 → ⊥) → (buffer : List ℕ) → buffer ≡ zeros (eventRoom e)
-        → Named (r .refusal) (zeros numberCount) buffer l
+    pub turned-away-named : Enters r tenant line time short l → (r .refusal ≡ 0 → ⊥) → (n : ℕ) (numbers buffer : List ℕ)
+        → n ≡ r .refusal → numbers ≡ zeros numberCount → buffer ≡ zeros (eventRoom e) → Named n numbers buffer l
     unfolding partNamed lentIn part zeros
-    turned-away-named enters h buffer cleared = (turned-away enters h buffer cleared, omega arith)
+    turned-away-named enters h n numbers buffer number none cleared =
+        rw none (turned-away enters h n (zeros numberCount) buffer number refl cleared, omega arith)
 
     pub taken-named : Passes r tenant line time short l → (s : Stepped) (buffer : List ℕ)
         → effectIn s (partNamed (numbersOf (s .action)) text name packet) buffer ≡ effect e time (lineOf (r .line)) → PartWithin (numbersOf (s .action)) text name packet

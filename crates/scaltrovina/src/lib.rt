@@ -4,3 +4,20 @@ mod packet;
 mod selecting;
 mod signalling;
 mod tunnels;
+
+use octets::slice::zero;
+ghost use mathlib.Core.Path.{_≡_};
+ghost use lib.ListN.{length};
+ghost use Rattle.octets.specs.Part.{zeros};
+ghost use Rattle.rules.specs.Answer.{numberCount};
+
+// A refused call with an answer buffer: only its number is returned.
+pub(crate) fn turned_away(number: u64, buffer: &mut [u8], answer: &mut [u64; 12]) -> u64
+    ensures { λ r. ⌜ r ≡ number ⌝ }
+    ensures { λ _. ⌜ now (buffer .exit) ≡ zeros (length (now (buffer .entry))) ⌝ }
+    ensures { λ _. ⌜ now (answer .exit) ≡ zeros numberCount ⌝ }
+{
+    zero(buffer);
+    *answer = [0; 12];
+    number
+}

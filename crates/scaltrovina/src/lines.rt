@@ -1,9 +1,9 @@
 // Opening, closing and listing lines.
+use crate::turned_away;
 use calls::answer::numbers;
 use calls::checked;
 use calls::fresh;
 use listing::list;
-use octets::slice::zero;
 use rules::Action;
 use rules::pair_of;
 use table::RECORDS;
@@ -84,9 +84,7 @@ pub extern "C" fn scal_list(
 {
     let number = checked(table, tenant, 0, listing.len() < LISTING_ROOM);
     if number != 0 {
-        zero(listing);
-        *answer = [0; 12];
-        return number;
+        return turned_away(number, listing, answer);
     }
     let written = list(table, tenant, listing);
     *answer = numbers(Action::Listed(written));

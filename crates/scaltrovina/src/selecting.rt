@@ -1,11 +1,11 @@
 // From start to the chosen address.
+use crate::turned_away;
 use attempt::address_answer;
 use attempt::country_answer;
 use attempt::start;
 use calls::enter;
 use calls::settle;
 use network::NAME_ROOM;
-use octets::slice::zero;
 use rules::StartNumbers;
 ghost use mathlib.Core.List.{[]};
 ghost use mathlib.Core.Path.{_≡_};
@@ -37,9 +37,7 @@ pub extern "C" fn scal_start(
 {
     let entered = enter(table, tenant, line, time, name.len() < NAME_ROOM);
     if entered.refusal != 0 {
-        zero(name);
-        *answer = [0; 12];
-        return entered.refusal;
+        return turned_away(entered.refusal, name, answer);
     }
     let given = StartNumbers {
         place,
@@ -72,9 +70,7 @@ pub extern "C" fn scal_country(
 {
     let entered = enter(table, tenant, line, time, name.len() < NAME_ROOM);
     if entered.refusal != 0 {
-        zero(name);
-        *answer = [0; 12];
-        return entered.refusal;
+        return turned_away(entered.refusal, name, answer);
     }
     let found = entered.line;
     let stepped = country_answer(found, time, replied, networks, text, name);

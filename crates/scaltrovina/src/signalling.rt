@@ -1,9 +1,9 @@
 // From the chosen address to a live line: IKE and EAP-5G.
+use crate::turned_away;
 use calls::enter;
 use calls::settle;
 use ike::event::IkeEvent;
 use ike::event::step_of;
-use octets::slice::zero;
 use response::REPLY_ROOM;
 use session::eap_packet;
 ghost use mathlib.Core.List.{[]};
@@ -104,9 +104,7 @@ pub extern "C" fn scal_reply(
 {
     let entered = enter(table, tenant, line, time, reply.len() < REPLY_ROOM);
     if entered.refusal != 0 {
-        zero(reply);
-        *answer = [0; 12];
-        return entered.refusal;
+        return turned_away(entered.refusal, reply, answer);
     }
     let found = entered.line;
     let stepped = session::reply(found, time, parameters, nas, reply);

@@ -1,7 +1,6 @@
 -- `scaltrovina::lines::scal_list` meets its contract: a listing that is not refused changes nothing.
 use borrow.Author.Needs.{needs}
 use borrow.Author.Tests.{ltb-false}
-use Rattle.octets.specs.Part.{zeros}
 use Rattle.rules.proofs.Accepted.{tenant-range}
 use Rattle.calls.proofs.Entries.{in-range, is-long, is-sound}
 use Rattle.scaltrovina.proofs.Lists.{list-at-first, listed}
@@ -11,17 +10,17 @@ use Rattle.scaltrovina.proofs.lines.scal_list.Tie as tie
 checked-requires : tie.Need-checked-requires
 checked-requires c κs = search needs
 
-zero-requires : tie.Need-zero-requires
-zero-requires c κs = search needs
+turned-away-requires : tie.Need-turned-away-requires
+turned-away-requires c κs = search needs
 
 same-length : tie.Need-same-length
 same-length c = search needs
 
 returns : tie.Need-returns
-unfolding zeros
 returns c =
+    let away = c .before .before .turned-away .ensures in
     let first = c .before .before .before .before .before in
-    list-at-first _ _ _ _ (first .before .checked .ensures) (first .if1 .taken) _ (c .before .before .before .zero .ensures)
+    list-at-first _ _ _ _ (first .before .checked .ensures) (first .if1 .taken) _ _ _ (away .0) (away .1 .1) (away .1 .0)
 
 list-requires : tie.Need-list-requires
 list-requires c κs =
@@ -46,7 +45,7 @@ scal-list-spec =
     tie.close
     (tie.spec
     checked-requires
-    zero-requires
+    turned-away-requires
     same-length
     returns
     list-requires

@@ -17,7 +17,7 @@ same-length c = search needs
 
 returns : tie.Need-returns
 unfolding isShort roomOf leastRoom leastEventRoom eventRoom zeros
-returns c = turned-away _ _ _ (address _) _ _ _ refl (c .before .before .before .enter .ensures) (c .before .if1 .taken) _ refl
+returns c = turned-away _ _ _ (address _) _ _ _ refl (c .before .before .before .enter .ensures) (c .before .if1 .taken) _ _ _ refl refl refl
 
 address-answer-requires : tie.Need-address-answer-requires
 address-answer-requires c κs = c .before .before .before .enter .ensures .passes (c .before .if1 .left) .in-arrays

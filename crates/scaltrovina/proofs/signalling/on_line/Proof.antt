@@ -1,4 +1,5 @@
 -- `scaltrovina::signalling::on_line` meets its contract.
+use mathlib.Core.Path.{refl}
 use borrow.Author.Needs.{needs}
 use Rattle.octets.specs.Part.{zeros}
 use Rattle.ike.specs.Events.{eventOf}
@@ -16,7 +17,7 @@ returns : tie.Need-returns
 unfolding zeros
 returns c =
     let a = c .before .before .before .before .before .before .args in
-    turned-away _ _ _ (eventOf (a .event)) _ _ _ (never-short _ _ _ (a .event)) (c .before .before .before .enter .ensures) (c .before .if1 .taken) _ (no-buffer (a .event))
+    turned-away _ _ _ (eventOf (a .event)) _ _ _ (never-short _ _ _ (a .event)) (c .before .before .before .enter .ensures) (c .before .if1 .taken) _ _ _ refl refl (no-buffer (a .event))
 
 step-of-requires : tie.Need-step-of-requires
 step-of-requires c κs =

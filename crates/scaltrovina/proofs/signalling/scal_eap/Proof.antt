@@ -17,7 +17,7 @@ same-length c = search needs
 
 returns : tie.Need-returns
 unfolding isShort roomOf leastRoom leastEventRoom eventRoom zeros
-returns c = turned-away-named _ _ _ (eap _) _ _ _ refl _ _ _ (c .before .before .before .enter .ensures) (c .before .if1 .taken) _ refl
+returns c = turned-away-named _ _ _ (eap _) _ _ _ refl _ _ _ (c .before .before .before .enter .ensures) (c .before .if1 .taken) _ _ _ refl refl refl
 
 eap-packet-requires : tie.Need-eap-packet-requires
 eap-packet-requires c κs = c .before .before .before .enter .ensures .passes (c .before .if1 .left) .in-arrays

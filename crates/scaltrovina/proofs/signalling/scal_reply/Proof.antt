@@ -2,7 +2,6 @@
 use mathlib.Core.Path.{refl}
 use borrow.Author.Needs.{needs}
 use borrow.Author.Tests.{ltb-false}
-use Rattle.octets.specs.Part.{zeros}
 use Rattle.rules.specs.Answer.{eventRoom, roomOf}
 use Rattle.rules.specs.Call.{reply}
 use Rattle.rules.specs.Refusals.{isShort, leastEventRoom, leastRoom}
@@ -13,8 +12,8 @@ use Rattle.scaltrovina.proofs.signalling.scal_reply.Tie as tie
 enter-requires : tie.Need-enter-requires
 enter-requires c κs = search needs
 
-zero-requires : tie.Need-zero-requires
-zero-requires c κs = search needs
+turned-away-requires : tie.Need-turned-away-requires
+turned-away-requires c κs = search needs
 
 same-length : tie.Need-same-length
 same-length c = search needs
@@ -23,10 +22,11 @@ same-length-2 : tie.Need-same-length-2
 same-length-2 c = search needs
 
 returns : tie.Need-returns
-unfolding isShort roomOf leastRoom leastEventRoom eventRoom zeros
+unfolding isShort roomOf leastRoom leastEventRoom eventRoom
 returns c =
+    let away = c .before .before .turned-away .ensures in
     let first = c .before .before .before .before .before in
-    turned-away _ _ _ (reply _ _ _) _ _ _ refl (first .before .before .enter .ensures) (first .if1 .taken) _ (c .before .before .before .zero .ensures)
+    turned-away _ _ _ (reply _ _ _) _ _ _ refl (first .before .before .enter .ensures) (first .if1 .taken) _ _ _ (away .0) (away .1 .1) (away .1 .0)
 
 reply-requires : tie.Need-reply-requires
 reply-requires c κs =
@@ -61,7 +61,7 @@ scal-reply-spec =
     tie.close
     (tie.spec
     enter-requires
-    zero-requires
+    turned-away-requires
     same-length
     same-length-2
     returns

@@ -1,0 +1,19 @@
+-- `scaltrovina::turned_away` meets its contract.
+use mathlib.Core.Path.{refl}
+use borrow.Author.Needs.{needs}
+use Rattle.octets.specs.Part.{zeros}
+use Rattle.scaltrovina.proofs.turned_away.Statement.{statement}
+use Rattle.scaltrovina.proofs.turned_away.Tie as tie
+
+zero-requires : tie.Need-zero-requires
+zero-requires c κs = search needs
+
+same-length : tie.Need-same-length
+same-length c = search needs
+
+returns : tie.Need-returns
+unfolding zeros
+returns c = (refl, (c .before .before .before .zero .ensures, refl))
+
+pub turned-away-spec : {M : Type 1} → statement M
+turned-away-spec = tie.close (tie.spec zero-requires same-length returns)
