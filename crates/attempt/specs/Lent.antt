@@ -6,7 +6,7 @@ use mathlib.Core.Option.{Option, none, some}
 use mathlib.Core.Path.{_≡_}
 use Rattle.octets.specs.Refusal.{Refusal, refusal, _when_}
 use Rattle.octets.specs.Row.{isSome}
-use Rattle.config.specs.Settings.{Within, configOf, settingsIn}
+use Rattle.config.specs.Settings.{Settings, Within, configOf, settingsIn}
 use Rattle.place.specs.declared.Facts.{Facts}
 use Rattle.rules.specs.Refusals.{isHomeAbroad, isLong}
 use Rattle.attempt.specs.declared.lent.Lent.{Lent}
@@ -18,12 +18,16 @@ unfoldable pub factsOption : MaybeFacts → Option Facts
 factsOption MaybeFacts.None = none
 factsOption (MaybeFacts.Are f) = some f
 
--- 8 too long, or abroad with the text's home MCC; 9 not well formed
+-- of a text that was read: 8 abroad with its home MCC, 9 not well formed
+unfoldable pub readRefusals : Option Settings → Option Facts → List Refusal
+readRefusals s f = (8 when isHomeAbroad s f) ∷ (9 when not (isSome s)) ∷ []
+
+-- of a text: 8 too long, or abroad with the text's home MCC; 9 not well formed
 unfoldable pub textRefusals : List ℕ → Option Facts → List Refusal
 textRefusals text f = (8 when (isLong text || isHomeAbroad (configOf text) f)) ∷ (9 when not (isSome (configOf text))) ∷ []
 
 -- what was read of a text: its refusal number, and where that is 0 what it says; a name in it lies within the text
-pub record Reads (r : Lent) (text : List ℕ) (f : Option Facts) : Type 0 where
+pub record LentIs (r : Lent) (text : List ℕ) (f : Option Facts) : Type 0 where
   pub refusal-is : r .refusal ≡ refusal (textRefusals text f)
   pub settings-are : r .refusal ≡ 0 → configOf text ≡ some (settingsIn (r .config))
   pub within : Within text (r .config)

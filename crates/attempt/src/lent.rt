@@ -7,18 +7,15 @@ use config::parse::parse;
 use phase::Phase;
 use place::Facts;
 use selection::is_home_abroad;
-ghost use mathlib.Core.Bool.{cond, not};
-ghost use mathlib.Core.List.{[], _∷_};
+ghost use mathlib.Core.Bool.{cond};
 ghost use mathlib.Core.Option.{none};
 ghost use mathlib.Core.Path.{_≡_};
-ghost use Rattle.octets.specs.Refusal.{refusal, _when_};
-ghost use Rattle.octets.specs.Row.{isSome};
+ghost use Rattle.octets.specs.Refusal.{refusal};
 ghost use Rattle.config.specs.Settings.{parsed};
 ghost use Rattle.phase.specs.Stage as Stage;
 ghost use Rattle.phase.specs.Stage.{isIn};
 ghost use Rattle.rules.specs.Phases.{factsIn};
-ghost use Rattle.rules.specs.Refusals.{isHomeAbroad};
-ghost use Rattle.attempt.specs.Lent.{factsOption, Reads};
+ghost use Rattle.attempt.specs.Lent.{factsOption, readRefusals, LentIs};
 
 // The place facts that a text is held against, where there are any.
 pub(crate) enum MaybeFacts {
@@ -44,7 +41,7 @@ pub(crate) fn awaiting(phase: Phase) -> MaybeFacts
 
 // The refusal of a text that is not too long: 8 where the place is abroad with its home MCC, 9 where it is not well formed.
 fn refusal_of(text: Parsed, facts: MaybeFacts) -> u64
-    ensures { λ r. ⌜ r ≡ refusal ((8 when isHomeAbroad (parsed text) (factsOption facts)) ∷ (9 when not (isSome (parsed text))) ∷ []) ⌝ }
+    ensures { λ r. ⌜ r ≡ refusal (readRefusals (parsed text) (factsOption facts)) ⌝ }
 {
     if !text.ok {
         return 9;
@@ -60,9 +57,9 @@ fn refusal_of(text: Parsed, facts: MaybeFacts) -> u64
     0
 }
 
-// Reads a lent text once, unless it is too long.
+// LentIs a lent text once, unless it is too long.
 pub(crate) fn read(text: &[u8], facts: MaybeFacts) -> Lent
-    ensures { λ r. ⌜ Reads r (now (text .entry)) (factsOption facts) ⌝ }
+    ensures { λ r. ⌜ LentIs r (now (text .entry)) (factsOption facts) ⌝ }
 {
     if MOST_TEXT < text.len() {
         let unread = ill_formed();

@@ -1,4 +1,4 @@
--- What the calls on the table share.
-pub mod Entries
-pub mod Halves
-pub mod Stores
+-- What the exported calls return.
+pub mod Lists
+pub mod Opens
+pub mod Timed

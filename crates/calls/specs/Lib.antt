@@ -1,2 +1,2 @@
--- What the calls on the table share.
-pub mod Entry
+-- What the exported calls return.
+pub mod Returned

@@ -1,6 +1,6 @@
 -- EAP-5G packets, read field by field in the order of RFC 3748 and TS 24.502 clause 9.3.2.
 use Prim.Native.Nat.{ℕ, _+_}
-use mathlib.Core.Bool.{Bool, cond, _&&_}
+use mathlib.Core.Bool.{Bool, true, false, cond, _&&_}
 use mathlib.Core.List.{List, [], _∷_}
 use lib.Dec.{leb, eqb}
 use lib.ListN.{length}
@@ -107,6 +107,15 @@ nasLength (Success i) = 0
 nasLength (NasResponse i p m at n) = n
 nasLength (Stop i) = 0
 nasLength Other = 0
+
+-- what the network sends and the handset reads: Start, NAS requests and Success
+unfoldable pub isRequest : Packet → Bool
+isRequest (Start i) = true
+isRequest (NasRequest i at n) = true
+isRequest (Success i) = true
+isRequest (NasResponse i p m at n) = false
+isRequest (Stop i) = false
+isRequest Other = false
 
 -- a packet in six numbers: 1 Start, 2 NAS, 3 Success, 4 Stop; its identifier; where AN-parameters and NAS start and how long they are; zeros for any other
 unfoldable pub packetNumbers : Packet → List ℕ

@@ -3,7 +3,8 @@ use Rattle.rules.specs.Call.{Event, begin, child-deleted, child-made, congestio
 use Rattle.ike.specs.declared.event.IkeEvent.{IkeEvent}
 use Rattle.ike.specs.declared.event.IkeEvent.the-variants as IkeEvent
 
-unfoldable pub eventOf : IkeEvent → Event
+-- an event of the code as one of the rules
+abbrev pub eventOf : IkeEvent → Event
 eventOf IkeEvent.Begin = begin
 eventOf IkeEvent.InitAnswer = init
 eventOf (IkeEvent.FinalAnswer good) = final good

@@ -11,8 +11,8 @@ use field::put_word;
 use octets::slice::zero;
 use phase::Phase;
 use phase::chosen;
+use record::LINES;
 use record::Record;
-use rules::LINES;
 use rules::pair_of;
 use table::RECORDS;
 use table::read_slot;
@@ -33,6 +33,9 @@ ghost use Rattle.rules.specs.Listing.{childText, lineText};
 ghost use Rattle.rules.specs.View.{ownLine};
 ghost use Rattle.listing.specs.Branch.{Fits, Put, headText, openText, tailText};
 ghost use Rattle.listing.specs.Listed.{listingOf};
+
+// The smallest buffer that a listing is written to.
+pub const LISTING_ROOM: usize = 1024;
 
 // Stores the record of a child of a line and returns the place behind it.
 fn put_child(buffer: &mut [u8], at: usize, line: u64, child: Child) -> usize

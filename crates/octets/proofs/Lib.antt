@@ -5,6 +5,7 @@ pub mod Elements
 pub mod Fields
 pub mod Firsts
 pub mod Octets
+pub mod Ors
 pub mod Parts
 pub mod Refusals
 pub mod Rows

@@ -1,7 +1,7 @@
 -- The number that a rising list of refusals gives is the lowest whose condition holds.
 use Prim.Native.Nat.{ℕ, suc, _≤_, _<_}
 use mathlib.Core.Bool.{Bool, true, false, false≢true}
-use mathlib.Core.List.{List, [], _∷_}
+use mathlib.Core.List.{List, [], _∷_, _++_}
 use mathlib.Core.Logic.{inl, inr, ⊎-elim}
 use mathlib.Core.Path.{_≡_, refl, subst}
 use native.Mathlib.Nat.{le-of-eq, le-of-lt, lt-trans, suc-ne-zero}
@@ -33,3 +33,10 @@ pub refusal-step : (n : ℕ) (b : Bool) (rs : List Refusal) → refusal ((suc n 
 unfolding refusal
 refusal-step n true rs e = absurd (suc-ne-zero n e)
 refusal-step n false rs e = (refl, e)
+
+-- a number that is given is given whatever stands behind
+pub refusal-ahead : (rs ss : List Refusal) → (refusal rs ≡ 0 → ⊥) → refusal (rs ++ ss) ≡ refusal rs
+unfolding refusal
+refusal-ahead [] ss h = absurd (h refl)
+refusal-ahead ((n when true) ∷ rs) ss h = refl
+refusal-ahead ((n when false) ∷ rs) ss h = refusal-ahead rs ss h

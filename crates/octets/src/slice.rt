@@ -45,20 +45,19 @@ pub fn same(a: &[u8], b: &[u8]) -> bool
     true
 }
 
-// Whether the n octets from `at` are zeros.
+// Whether the n octets from `at` are zeros; a loop without an early end is compiled to few instructions.
 pub fn zeros_at(s: &[u8], at: usize, n: usize) -> bool
     requires { ⌜ at + n ≤ length (now s) ⌝ }
     ensures { λ r. ⌜ r ≡ zerosAt (now (s .entry)) at n ⌝ }
 {
     let end = at + n;
+    let mut bits: u8 = 0;
     let mut i = at;
     while i < end {
-        if s[i] != 0 {
-            return false;
-        }
+        bits = bits | s[i];
         i += 1;
     }
-    true
+    bits == 0
 }
 
 // The n octets from `at`, as a part of the lent slice.

@@ -13,14 +13,14 @@ use Rattle.eap.specs.declared.Packet.{Packet}
 use Rattle.eap.specs.declared.Packet.the-variants.{Start, NasRequest, Success, NasResponse, Stop, Other}
 use Rattle.eap.specs.Packet.{packetNumbers}
 use Rattle.eap.proofs.Packet.{the-type}
-use Rattle.response.specs.Response.{writeRefusal, written}
+use Rattle.response.specs.Response.{writeRefusal, written, writtenPacket}
 use Rattle.timer.specs.Timer.{timerNumbers, timerOf}
 use Rattle.timer.specs.declared.Timer.{Timer}
-use Rattle.packets.specs.Packets.{PacketAnswer, fieldsOnly, isBroken, packetAnswer, parameterNumbers, parameterRefusal, readParameter, readTimer, responseAnswer, turnedAway, unlessRefused, writeResponse, writtenPacket}
+use Rattle.packets.specs.Packets.{PacketAnswer, fieldsOnly, isBroken, packetAnswer, packetReturned, parameterNumbers, parameterRefusal, readParameter, readTimer, responseAnswer, refusedBy, unlessRefused, writeResponse}
 use Rattle.packets.specs.declared.Six.{Six}
 
 -- every packet but a NAS response is turned away as a response
-pub no-response : (p : Packet) → OneOf (0 ∷ 1 ∷ 2 ∷ 4 ∷ 5 ∷ []) (tagOf the-type p) → turnedAway 9 0 ≡ responseAnswer p
+pub no-response : (p : Packet) → OneOf (0 ∷ 1 ∷ 2 ∷ 4 ∷ 5 ∷ []) (tagOf the-type p) → refusedBy 9 0 ≡ responseAnswer p
 unfolding responseAnswer
 no-response (Start i) k = refl
 no-response (NasRequest i at n) k = refl
@@ -35,25 +35,25 @@ with-buffer a buffer = record { refusal = a .refusal; fields = a .fields; buffer
 
 -- writing, with what the buffer holds afterwards
 module _ (i : ℕ) (p n : List ℕ) (room : ℕ) (l : List ℕ) (after : l ≡ written i p n room) (r : Six) where
-  pub not-written : (k : ℕ) → (k ≡ 0 → ⊥) → k ≡ writeRefusal i p n room → packetAnswer r [] ≡ turnedAway k 0
+  pub not-written : (k : ℕ) → (k ≡ 0 → ⊥) → k ≡ writeRefusal i p n room → packetAnswer r [] ≡ refusedBy k 0
       → packetAnswer r l ≡ writeResponse i p n room
-  unfolding writeResponse written unlessRefused packetAnswer turnedAway with-buffer
+  unfolding writeResponse written unlessRefused packetReturned refusedBy with-buffer
   not-written zero some e a = absurd (some refl)
   not-written (suc k) some e a = rw (← e) (ap₂ with-buffer a (rw (← e, ne-eqb (suc k) 0 some) at after))
 
   pub is-written : (k : ℕ) → k ≡ 0 → k ≡ writeRefusal i p n room → packetAnswer r [] ≡ fieldsOnly (packetNumbers (writtenPacket i p n))
       → packetAnswer r l ≡ writeResponse i p n room
-  unfolding writeResponse unlessRefused packetAnswer fieldsOnly with-buffer
-  is-written k none e a = rw (← e, none) (ap₂ with-buffer a after)
+  unfolding writeResponse written unlessRefused packetReturned fieldsOnly with-buffer
+  is-written k none e a = rw (← e, none) (ap₂ with-buffer a (rw (← e, none) at after))
 
 -- reading the AN-parameter at a place
 module _ (l : List ℕ) (at : ℕ) where
-  pub too-long : 1024 < length l → turnedAway 8 0 ≡ readParameter l at
+  pub too-long : 1024 < length l → refusedBy 8 0 ≡ readParameter l at
   unfolding readParameter parameterRefusal refusal unlessRefused
   too-long h = simp (lt-ltb 1024 (length l) h)
 
   module _ (short : length l ≤ 1024) where
-    pub past-end : length l < at → turnedAway 8 0 ≡ readParameter l at
+    pub past-end : length l < at → refusedBy 8 0 ≡ readParameter l at
     unfolding readParameter parameterRefusal refusal unlessRefused
     past-end h = simp (le-ltb 1024 (length l) short, lt-ltb (length l) at h)
 
@@ -64,7 +64,7 @@ module _ (l : List ℕ) (at : ℕ) where
 
 -- reading a timer octet
 module _ (octet : ℕ) where
-  pub no-octet : 255 < octet → turnedAway 8 0 ≡ readTimer octet
+  pub no-octet : 255 < octet → refusedBy 8 0 ≡ readTimer octet
   unfolding readTimer
   no-octet h = simp (lt-ltb 255 octet h)
 

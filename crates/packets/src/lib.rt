@@ -8,7 +8,7 @@ use timer::Timer;
 ghost use mathlib.Core.List.{[]};
 ghost use mathlib.Core.Path.{_≡_};
 ghost use lib.ListN.{length};
-ghost use Rattle.packets.specs.Packets.{fieldsOnly, packetAnswer, readParameter, readRequest, readResponse, readTimer, turnedAway, writeResponse};
+ghost use Rattle.packets.specs.Packets.{fieldsOnly, packetAnswer, readParameter, readRequest, readResponse, readTimer, refusedBy, writeResponse};
 
 // What a call answers: its refusal number or 0, and six numbers.
 pub struct Six {
@@ -18,7 +18,7 @@ pub struct Six {
 
 // A refused call answers six zeros.
 fn refused(number: u64) -> Six
-    ensures { λ r. ⌜ packetAnswer r [] ≡ turnedAway number 0 ⌝ }
+    ensures { λ r. ⌜ packetAnswer r [] ≡ refusedBy number 0 ⌝ }
 {
     Six {
         refusal: number,

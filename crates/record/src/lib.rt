@@ -46,6 +46,13 @@ pub(crate) const CHILDREN_AT: usize = HOLDS_AT + HOLDS_ROOM;
 // The octets of a record.
 pub const RECORD: usize = CHILDREN_AT + CHILDREN_ROOM;
 
+// How many tenants there are, how many lines each has, and how many pairs of the two.
+pub const TENANTS: u64 = 16;
+
+pub const LINES: u64 = 4;
+
+pub const PAIRS: u64 = TENANTS * LINES;
+
 // A line: holds and children are those below their counts.
 pub struct Record {
     pub time: u64,

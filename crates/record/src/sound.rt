@@ -3,6 +3,7 @@ use crate::CHILD_COUNT_AT;
 use crate::CHILDREN_AT;
 use crate::HOLD_COUNT_AT;
 use crate::HOLDS_AT;
+use crate::PAIRS;
 use crate::PHASE_AT;
 use crate::read_record;
 use address::HOLDS;
@@ -36,9 +37,6 @@ ghost use Rattle.record.specs.Sound.{childrenSound, holdsSound, chosenFr
 
 // How many holds a line that is not idle has room for.
 const BUSY_HOLDS: usize = 7;
-
-// How many pairs of a tenant and a line there are.
-const PAIRS: u64 = 64;
 
 // Whether a line in a phase may have n holds of eight.
 fn has_room(phase: Phase, n: usize) -> bool

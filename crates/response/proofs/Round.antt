@@ -18,7 +18,7 @@ use Rattle.eap.specs.Branch.{responseOf}
 use Rattle.response.specs.Laws.{Reads}
 use Rattle.eap.specs.Packet.{code, identifier, lengthField, typeField, vendor, vendorType, message, spare, isExpanded, isParameters, isNas, nasPlace, isMessage, isNasResponse, readPacket}
 use Rattle.parameters.specs.Parameters.{wellFormed}
-use Rattle.response.specs.Response.{header, block, response, writeRefusal}
+use Rattle.response.specs.Response.{block, header, response, writeRefusal, writtenPacket}
 use Rattle.eap.specs.declared.Packet.the-variants.{NasResponse}
 use Rattle.eap.proofs.Blocks.{within, nas-whole, parameters-are}
 use Rattle.eap.proofs.Headers.{by-vendor-type, nas-response}
@@ -103,6 +103,7 @@ module _ (i : ℕ) (p n : List ℕ) (room : ℕ) (a : Accepted i p n room) where
       ∙ simp (parameters-pass, place, nas-passes, identifier-is, parameters-length, nas-length-is, e)
 
   pub write-read : Reads P i p n
+  unfolding writtenPacket
   write-read = record { is = is-read; parameters-are = parameters-are-p; nas-is = nas-is-n }
 
 -- octets that are read as a NAS response, field by field

@@ -8,14 +8,14 @@ use Rattle.octets.specs.Laws.{below}
 use Rattle.octets.specs.Part.{part}
 use Rattle.octets.specs.Search.{allOf}
 use Rattle.eap.specs.Packet.{readPacket, spare}
-use Rattle.response.specs.Response.{replyRoom, response, writeRefusal}
+use Rattle.response.specs.Response.{nasStart, parametersStart, replyRoom, response, writeRefusal, writtenPacket}
 use Rattle.eap.specs.declared.Packet.the-variants.{NasResponse}
 
 -- a packet is read as a NAS response with these fields
 pub record Reads (l : List ℕ) (identifier : ℕ) (parameters nas : List ℕ) : Type 0 where
-  pub is : readPacket l ≡ NasResponse identifier 16 (length parameters) (18 + length parameters) (length nas)
-  pub parameters-are : part l 16 (length parameters) ≡ parameters
-  pub nas-is : part l (18 + length parameters) (length nas) ≡ nas
+  pub is : readPacket l ≡ writtenPacket identifier parameters nas
+  pub parameters-are : part l parametersStart (length parameters) ≡ parameters
+  pub nas-is : part l (nasStart (length parameters)) (length nas) ≡ nas
 
 pub record Laws : Type 0 where
   -- what is written is read back as the same fields

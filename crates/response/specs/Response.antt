@@ -9,6 +9,8 @@ use Rattle.octets.specs.Part.{zeros, padded}
 use Rattle.octets.specs.Refusal.{_when_, refusal}
 use Rattle.parameters.specs.Parameters.{mostParameters, wellFormed}
 use Rattle.eap.specs.Packet.{mostNas}
+use Rattle.eap.specs.declared.Packet.{Packet}
+use Rattle.eap.specs.declared.Packet.the-variants.{NasResponse}
 
 -- a reply is written to a buffer of at least so many octets
 abbrev pub replyRoom : ℕ
@@ -27,6 +29,18 @@ block l = be 2 (length l) ++ l
 unfoldable pub response : ℕ → List ℕ → List ℕ → List ℕ
 response identifier parameters nas =
     header 2 identifier (18 + length parameters + length nas) 2 ++ block parameters ++ block nas
+
+-- AN-parameters start behind the 14 first octets and their own length
+abbrev pub parametersStart : ℕ
+parametersStart = 16
+
+-- NAS starts behind so many octets of AN-parameters and its own length
+abbrev pub nasStart : ℕ → ℕ
+nasStart n = 18 + n
+
+-- the packet that is written, with where its AN-parameters and its NAS start and how long they are
+unfoldable pub writtenPacket : ℕ → List ℕ → List ℕ → Packet
+writtenPacket identifier parameters nas = NasResponse identifier parametersStart (length parameters) (nasStart (length parameters)) (length nas)
 
 -- AN-parameters over 1,024 octets, NAS of none or over 2,048
 unfoldable pub lentOutOfRange : List ℕ → List ℕ → Bool

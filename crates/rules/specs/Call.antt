@@ -96,6 +96,17 @@ lentOctets (timed tenant line time e) = eventOctets e
 unfoldable pub pairOf : ℕ → ℕ → ℕ
 pairOf tenant line = suc (suc lastLine * tenant + line)
 
+-- the numbers of a start in their order: place, visited MCC, whether registered, MCC and MNC, local IP version
+unfoldable pub startNumbers : ℕ → ℕ → ℕ → ℕ → ℕ → ℕ → StartNumbers
+startNumbers place mcc registered rmcc rmnc version = record {
+  place = place;
+  mcc = mcc;
+  registered = registered;
+  «registered_mcc» = rmcc;
+  «registered_mnc» = rmnc;
+  version = version;
+}
+
 -- MCC and MNC 0 to 999, local IP version 4 or 6, place one of three, a flag 0 or 1; a number that a call does not have is 0
 unfoldable pub startNumbersFit : StartNumbers → Bool
 startNumbersFit g =

@@ -12,7 +12,7 @@ use Rattle.rules.specs.Run.{bare}
 use Rattle.rules.specs.Answer.{Answer, numbersOf, numberCount}
 use Rattle.rules.specs.declared.Action.{Action}
 use Rattle.rules.specs.declared.Action.the-variants as Action
-use Rattle.rules.specs.Call.{Event, start, begin, init, eap, reply, final, congestion, Call, opening, timed}
+use Rattle.rules.specs.Call.{Event, start, begin, init, eap, reply, final, congestion, Call, opening, startNumbers, timed}
 use Rattle.rules.specs.declared.StartNumbers.{StartNumbers}
 
 -- a record of a text as document 01 shows it: tabs as bars, ended by one newline
@@ -49,17 +49,6 @@ unfolding plain
 roaming =
     plain ++ shown "plmn|901|01|5" ++ shown "plmn|901|02|3" ++ shown "plmn|901|003|3" ++ shown "plmn|901|04|0" ++ shown "plmn|902|01|0"
     ++ shown "bar|901|004"
-
--- the numbers of a start in their order: place, visited MCC, whether registered, MCC and MNC, local IP version
-unfoldable pub startNumbers : ℕ → ℕ → ℕ → ℕ → ℕ → ℕ → StartNumbers
-startNumbers place mcc registered rmcc rmnc version = record {
-  place = place;
-  mcc = mcc;
-  registered = registered;
-  «registered_mcc» = rmcc;
-  «registered_mnc» = rmnc;
-  version = version;
-}
 
 -- at home and abroad in a country with each local IP version, and abroad in 901 with a registered PLMN
 unfoldable pub atHome : StartNumbers

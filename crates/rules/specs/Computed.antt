@@ -71,7 +71,7 @@ unfolding empty slotsOn
     Parameters.wellFormedIn Parameters.wellFormed Parameters.size
     Packet.code Packet.identifier Packet.lengthField Packet.typeField Packet.vendor Packet.vendorType Packet.message Packet.isSuccess
     Packet.isExpanded Packet.isMessage Packet.fits Packet.isNas Packet.isParameters Packet.isNasRequest Packet.nasPlace
-    Packet.isNasResponse Packet.readPacket Packet.nasOf
+    Packet.isNasResponse Packet.isRequest Packet.readPacket Packet.nasOf
     Response.header Response.block Response.response Response.lentOutOfRange
     Address.isVersion Address.versionOf Address.widthOf Address.numberOf Address.high Address.low Address.addressOf Address.sameAddress Address.stands Address.addressIn
     Address.permitted
@@ -106,7 +106,7 @@ unfolding empty slotsOn
     RulesRefusals.isAboveLast RulesRefusals.isNoPair RulesRefusals.leastEventRoom RulesRefusals.leastRoom RulesRefusals.isShort
     RulesRefusals.isOpenAlready RulesRefusals.isNotOpen RulesRefusals.isFull RulesRefusals.isEarly
     RulesRefusals.isLong RulesRefusals.isHomeAbroad RulesRefusals.waitsHomeAbroad RulesRefusals.badNetworks RulesRefusals.lacksParameters
-    RulesRefusals.isChild RulesRefusals.isOutOfRange RulesRefusals.isTakenApart RulesRefusals.isMalformed RulesRefusals.isIdentifier RulesRefusals.isDue
+    RulesRefusals.isChild RulesRefusals.isOutOfRange RulesRefusals.isMalformed RulesRefusals.isIdentifier RulesRefusals.isDue
     RulesRefusals.isAllowed RulesRefusals.isSpiTaken RulesRefusals.hasNoRoom RulesRefusals.isHeldFull
     RulesRefusals.refusalsOf RulesRefusals.eventRefusals RulesRefusals.refusals
     RulesLife.current RulesLife.inPhase RulesLife.goes RulesLife.onward RulesLife.keeps RulesLife.gatewayFound RulesLife.nameAsked

@@ -10,8 +10,8 @@ use Rattle.octets.specs.Row.{joined, row}
 use Rattle.text.specs.Text.{digitText, text}
 use Rattle.rules.specs.Answer.{Answer}
 use Rattle.rules.specs.declared.Action.the-variants as Action
-use Rattle.rules.specs.Call.{start, country, eap, reply, child-made, child-deleted, Call}
-use Rattle.rules.specs.Cases.{acts, atHome, declined, declines, startNumbers, nas, now, plain, shown, toAnswered, toAuth, toCountry, toFirst, toIdle, toLive, writes, laterReply}
+use Rattle.rules.specs.Call.{start, country, eap, reply, child-made, child-deleted, Call, startNumbers}
+use Rattle.rules.specs.Cases.{acts, atHome, declined, declines, nas, now, plain, shown, toAnswered, toAuth, toCountry, toFirst, toIdle, toLive, writes, laterReply}
 use Rattle.rules.specs.Computed.{Example, got, said}
 
 -- a start by the records of its text

@@ -13,7 +13,7 @@ use Rattle.children.specs.Children.{childFits, hasSpi, mostChildren}
 use Rattle.children.specs.Laws.{childStorable}
 use Rattle.children.specs.declared.Child.{Child}
 use Rattle.config.specs.Settings.{Settings, configOf}
-use Rattle.eap.specs.Packet.{readPacket}
+use Rattle.eap.specs.Packet.{isRequest, readPacket}
 use Rattle.eap.specs.declared.Packet.{Packet}
 use Rattle.eap.specs.declared.Packet.the-variants.{Start, NasRequest, Success, NasResponse, Stop, Other}
 use Rattle.lists.specs.Lists.{addressesFit, networksFit}
@@ -140,23 +140,14 @@ isOutOfRange (child-made spi session) x = not (isChild (record { spi = spi; sess
 isOutOfRange (child-deleted spi) x = false
 isOutOfRange ike-delete x = false
 
--- the EAP step takes Start, NAS requests and Success apart and turns every other packet away with 9
-unfoldable pub isTakenApart : Packet → Bool
-isTakenApart (Start i) = true
-isTakenApart (NasRequest i at n) = true
-isTakenApart (Success i) = true
-isTakenApart (NasResponse i p m at n) = false
-isTakenApart (Stop i) = false
-isTakenApart Other = false
-
--- 9: a configuration text or packet that isn't well formed
+-- 9: a configuration text or packet that isn't well formed; the EAP step takes Start, NAS requests and Success apart and turns every other packet away
 unfoldable pub isMalformed : Event → Bool
 isMalformed (start g text room) = not (isSome (configOf text))
 isMalformed (country replied networks text room) = not (isSome (configOf text))
 isMalformed (address addresses) = false
 isMalformed begin = false
 isMalformed init = false
-isMalformed (eap packet) = not (isTakenApart (readPacket packet))
+isMalformed (eap packet) = not (isRequest (readPacket packet))
 isMalformed (reply parameters nas room) = not (wellFormed parameters)
 isMalformed (final good) = false
 isMalformed (error number) = false

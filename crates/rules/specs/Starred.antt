@@ -7,12 +7,12 @@ use Rattle.octets.specs.Row.{joined}
 use Rattle.address.specs.declared.Address.{Address}
 use Rattle.address.specs.declared.Address.the-variants.{V4, V6}
 use Rattle.addresses.specs.Addresses.{addressOctets}
-use Rattle.eap.specs.Packet.{packetNumbers}
+use Rattle.eap.specs.Packet.{isRequest, packetNumbers}
 use Rattle.gateway.specs.Gateway.{choose, foundNumbers}
 use Rattle.lists.specs.Lists.{addressesIn}
 use Rattle.network.specs.Name.{operatorName, visitedName}
-use Rattle.packets.specs.Packets.{PacketAnswer, fieldsOnly, readRequest, readTimer, requestAnswer, unlessRefused, writeResponse, writtenPacket}
-use Rattle.response.specs.Response.{outOfRange, writeRefusal, written}
+use Rattle.packets.specs.Packets.{PacketAnswer, fieldsOnly, packetReturned, readRequest, readTimer, requestAnswer, unlessRefused, writeResponse}
+use Rattle.response.specs.Response.{outOfRange, writeRefusal, writtenPacket}
 use Rattle.text.specs.Text.{text}
 use Rattle.timer.specs.Timer.{timerNumbers}
 use Rattle.rules.specs.Answer.{Answer, twelve}
@@ -43,8 +43,8 @@ buffers before calls = joined bufferOf (answersAfter before calls)
 
 -- the refusal number and the six numbers of a call without a table
 unfoldable pub packetGist : PacketAnswer → List ℕ
-unfolding fieldsOnly outOfRange packetNumbers readRequest readTimer requestAnswer timerNumbers unlessRefused writeRefusal writeResponse written
-    writtenPacket
+unfolding fieldsOnly isRequest outOfRange packetNumbers packetReturned readRequest readTimer requestAnswer timerNumbers unlessRefused
+    writeRefusal writeResponse writtenPacket
 packetGist a = a .refusal ∷ a .fields
 
 -- 2001:db8::1, 192.0.2.1 and 192.0.2.7

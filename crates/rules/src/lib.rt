@@ -1,5 +1,6 @@
 // The rules of document 01, what they ask of the daemon, and what is claimed of them.
 use address::Address;
+use record::LINES;
 ghost use mathlib.Core.Path.{_≡_};
 ghost use Prim.Native.Nat.{_≤_};
 ghost use Rattle.record.specs.Sound.{lastLine, lastTenant};
@@ -45,9 +46,6 @@ pub enum Action {
     // So many octets of the listing are written.
     Listed(usize),
 }
-
-// How many lines a tenant has.
-pub const LINES: u64 = 4;
 
 // The number of a pair of a tenant and a line.
 pub fn pair_of(tenant: u64, line: u64) -> u64

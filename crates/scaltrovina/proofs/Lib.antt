@@ -1,4 +1,1 @@
--- What the exported calls return.
-pub mod Lists
-pub mod Opens
-pub mod Timed
+-- The exported calls.

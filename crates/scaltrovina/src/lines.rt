@@ -1,16 +1,5 @@
 // Opening, closing and listing lines.
-use crate::turned_away;
-use calls::answer::numbers;
-use calls::checked;
-use calls::fresh;
-use listing::list;
-use rules::Action;
-use rules::pair_of;
-use table::RECORDS;
 use table::TABLE;
-use table::erase;
-use table::record_of;
-use table::store;
 ghost use mathlib.Core.List.{[]};
 ghost use mathlib.Core.Path.{_≡_};
 ghost use lib.ListN.{length};
@@ -18,13 +7,7 @@ ghost use Rattle.table.specs.Table.{tableLength};
 ghost use Rattle.rules.specs.Call as Call;
 ghost use Rattle.rules.specs.Call.{closing, opening};
 ghost use Rattle.rules.specs.Run.{run};
-ghost use Rattle.scaltrovina.specs.Returned.{returned};
-
-// The smallest buffer that a listing is written to.
-const LISTING_ROOM: usize = 1024;
-
-// The number of a free record in the place of a pair's.
-const FREE: u64 = 0;
+ghost use Rattle.calls.specs.Returned.{returned};
 
 // The length of a sound table; zeros of this length are the empty one.
 #[no_mangle]
@@ -39,20 +22,7 @@ pub extern "C" fn scal_table_length() -> u64
 pub extern "C" fn scal_open(table: &mut [u8], tenant: u64, line: u64) -> u64
     ensures { λ r. ⌜ returned r [] [] [] (now (table .exit)) ≡ run (opening tenant line) (now (table .entry)) ⌝ }
 {
-    let number = checked(table, tenant, line, false);
-    if number != 0 {
-        return number;
-    }
-    let pair = pair_of(tenant, line);
-    if record_of(table, pair) < RECORDS {
-        return 4;
-    }
-    let at = record_of(table, FREE);
-    if RECORDS <= at {
-        return 6;
-    }
-    store(table, at, pair, fresh());
-    0
+    calls::lines::open(table, tenant, line)
 }
 
 // Closes a line: its record is free, and all zeros.
@@ -60,16 +30,7 @@ pub extern "C" fn scal_open(table: &mut [u8], tenant: u64, line: u64) -> u64
 pub extern "C" fn scal_close(table: &mut [u8], tenant: u64, line: u64) -> u64
     ensures { λ r. ⌜ returned r [] [] [] (now (table .exit)) ≡ run (closing tenant line) (now (table .entry)) ⌝ }
 {
-    let number = checked(table, tenant, line, false);
-    if number != 0 {
-        return number;
-    }
-    let at = record_of(table, pair_of(tenant, line));
-    if RECORDS <= at {
-        return 5;
-    }
-    erase(table, at);
-    0
+    calls::lines::close(table, tenant, line)
 }
 
 // Lists a tenant's lines.
@@ -82,11 +43,5 @@ pub extern "C" fn scal_list(
 ) -> u64
     ensures { λ r. ⌜ returned r (now (answer .exit)) [] (now (listing .exit)) (now (table .entry)) ≡ run (Call.listing tenant (length (now (listing .entry)))) (now (table .entry)) ⌝ }
 {
-    let number = checked(table, tenant, 0, listing.len() < LISTING_ROOM);
-    if number != 0 {
-        return turned_away(number, listing, answer);
-    }
-    let written = list(table, tenant, listing);
-    *answer = numbers(Action::Listed(written));
-    0
+    calls::lines::list(table, tenant, listing, answer)
 }

@@ -7,13 +7,12 @@ use packets::write_response;
 ghost use mathlib.Core.List.{[]};
 ghost use mathlib.Core.Path.{_≡_};
 ghost use lib.ListN.{length};
-ghost use Rattle.packets.specs.Packets.{readParameter, readRequest, readResponse, readTimer, writeResponse};
-ghost use Rattle.scaltrovina.specs.Returned.{answered};
+ghost use Rattle.packets.specs.Packets.{packetReturned, readParameter, readRequest, readResponse, readTimer, writeResponse};
 
 // Reads Start, a NAS request or Success.
 #[no_mangle]
 pub extern "C" fn scal_read_request(packet: &[u8], fields: &mut [u64; 6]) -> u64
-    ensures { λ r. ⌜ answered r (now (fields .exit)) [] ≡ readRequest (now (packet .entry)) ⌝ }
+    ensures { λ r. ⌜ packetReturned r (now (fields .exit)) [] ≡ readRequest (now (packet .entry)) ⌝ }
 {
     let six = read_request(packet);
     let numbers = six.fields;
@@ -24,7 +23,7 @@ pub extern "C" fn scal_read_request(packet: &[u8], fields: &mut [u64; 6]) -> u64
 // Reads a NAS response.
 #[no_mangle]
 pub extern "C" fn scal_read_response(packet: &[u8], fields: &mut [u64; 6]) -> u64
-    ensures { λ r. ⌜ answered r (now (fields .exit)) [] ≡ readResponse (now (packet .entry)) ⌝ }
+    ensures { λ r. ⌜ packetReturned r (now (fields .exit)) [] ≡ readResponse (now (packet .entry)) ⌝ }
 {
     let six = read_response(packet);
     let numbers = six.fields;
@@ -41,7 +40,7 @@ pub extern "C" fn scal_write_response(
     packet: &mut [u8],
     fields: &mut [u64; 6],
 ) -> u64
-    ensures { λ r. ⌜ answered r (now (fields .exit)) (now (packet .exit)) ≡ writeResponse identifier (now (parameters .entry)) (now (nas .entry)) (length (now (packet .entry))) ⌝ }
+    ensures { λ r. ⌜ packetReturned r (now (fields .exit)) (now (packet .exit)) ≡ writeResponse identifier (now (parameters .entry)) (now (nas .entry)) (length (now (packet .entry))) ⌝ }
 {
     let six = write_response(identifier, parameters, nas, packet);
     let numbers = six.fields;
@@ -52,7 +51,7 @@ pub extern "C" fn scal_write_response(
 // Reads the AN-parameter at a place of a block.
 #[no_mangle]
 pub extern "C" fn scal_parameter(parameters: &[u8], at: u64, fields: &mut [u64; 6]) -> u64
-    ensures { λ r. ⌜ answered r (now (fields .exit)) [] ≡ readParameter (now (parameters .entry)) at ⌝ }
+    ensures { λ r. ⌜ packetReturned r (now (fields .exit)) [] ≡ readParameter (now (parameters .entry)) at ⌝ }
 {
     let six = read_parameter(parameters, at);
     let numbers = six.fields;
@@ -63,7 +62,7 @@ pub extern "C" fn scal_parameter(parameters: &[u8], at: u64, fields: &mut [u64; 
 // Reads a back-off timer octet.
 #[no_mangle]
 pub extern "C" fn scal_timer(octet: u64, fields: &mut [u64; 6]) -> u64
-    ensures { λ r. ⌜ answered r (now (fields .exit)) [] ≡ readTimer octet ⌝ }
+    ensures { λ r. ⌜ packetReturned r (now (fields .exit)) [] ≡ readTimer octet ⌝ }
 {
     let six = read_timer(octet);
     let numbers = six.fields;

@@ -1,19 +1,11 @@
 // From start to the chosen address.
-use crate::turned_away;
-use attempt::address_answer;
-use attempt::country_answer;
-use attempt::start;
-use calls::enter;
-use calls::settle;
-use network::NAME_ROOM;
-use rules::StartNumbers;
 ghost use mathlib.Core.List.{[]};
 ghost use mathlib.Core.Path.{_≡_};
 ghost use lib.ListN.{length};
 ghost use Rattle.rules.specs.Answer.{partNamed, PartWithin};
-ghost use Rattle.rules.specs.Call.{address, country, start, timed};
+ghost use Rattle.rules.specs.Call.{address, country, start, startNumbers, timed};
 ghost use Rattle.rules.specs.Run.{run};
-ghost use Rattle.scaltrovina.specs.Returned.{givenNumbers, returned};
+ghost use Rattle.calls.specs.Returned.{returned};
 
 // Starts an attempt: selection goes on until it asks a name, chooses an address or stops.
 #[no_mangle]
@@ -32,24 +24,24 @@ pub extern "C" fn scal_start(
     name: &mut [u8],
     answer: &mut [u64; 12],
 ) -> u64
-    ensures { λ r. ⌜ returned r (now (answer .exit)) (partNamed (now (answer .exit)) (now (text .entry)) (now (name .exit)) []) (now (name .exit)) (now (table .exit)) ≡ run (timed tenant line time (start (givenNumbers place mcc registered «registered_mcc» «registered_mnc» version) (now (text .entry)) (length (now (name .entry))))) (now (table .entry)) ⌝ }
+    ensures { λ r. ⌜ returned r (now (answer .exit)) (partNamed (now (answer .exit)) (now (text .entry)) (now (name .exit)) []) (now (name .exit)) (now (table .exit)) ≡ run (timed tenant line time (start (startNumbers place mcc registered «registered_mcc» «registered_mnc» version) (now (text .entry)) (length (now (name .entry))))) (now (table .entry)) ⌝ }
     ensures { λ _. ⌜ PartWithin (now (answer .exit)) (now (text .entry)) (now (name .exit)) [] ⌝ }
 {
-    let entered = enter(table, tenant, line, time, name.len() < NAME_ROOM);
-    if entered.refusal != 0 {
-        return turned_away(entered.refusal, name, answer);
-    }
-    let given = StartNumbers {
+    calls::selecting::start(
+        table,
+        tenant,
+        line,
+        time,
         place,
         mcc,
         registered,
         registered_mcc,
         registered_mnc,
         version,
-    };
-    let found = entered.line;
-    let stepped = start(found, time, given, text, name);
-    settle(table, entered.pair, entered.at, stepped, answer)
+        text,
+        name,
+        answer,
+    )
 }
 
 // Takes the answer to the country query.
@@ -68,13 +60,17 @@ pub extern "C" fn scal_country(
     ensures { λ r. ⌜ returned r (now (answer .exit)) (partNamed (now (answer .exit)) (now (text .entry)) (now (name .exit)) []) (now (name .exit)) (now (table .exit)) ≡ run (timed tenant line time (country replied (now (networks .entry)) (now (text .entry)) (length (now (name .entry))))) (now (table .entry)) ⌝ }
     ensures { λ _. ⌜ PartWithin (now (answer .exit)) (now (text .entry)) (now (name .exit)) [] ⌝ }
 {
-    let entered = enter(table, tenant, line, time, name.len() < NAME_ROOM);
-    if entered.refusal != 0 {
-        return turned_away(entered.refusal, name, answer);
-    }
-    let found = entered.line;
-    let stepped = country_answer(found, time, replied, networks, text, name);
-    settle(table, entered.pair, entered.at, stepped, answer)
+    calls::selecting::country(
+        table,
+        tenant,
+        line,
+        time,
+        replied,
+        networks,
+        text,
+        name,
+        answer,
+    )
 }
 
 // Takes the answer to the gateway's name: the addresses.
@@ -89,12 +85,5 @@ pub extern "C" fn scal_address(
 ) -> u64
     ensures { λ r. ⌜ returned r (now (answer .exit)) [] [] (now (table .exit)) ≡ run (timed tenant line time (address (now (addresses .entry)))) (now (table .entry)) ⌝ }
 {
-    let entered = enter(table, tenant, line, time, false);
-    if entered.refusal != 0 {
-        *answer = [0; 12];
-        return entered.refusal;
-    }
-    let found = entered.line;
-    let stepped = address_answer(found, time, addresses);
-    settle(table, entered.pair, entered.at, stepped, answer)
+    calls::selecting::address(table, tenant, line, time, addresses, answer)
 }

@@ -1,41 +1,14 @@
 // From the chosen address to a live line: IKE and EAP-5G.
-use crate::turned_away;
-use calls::enter;
-use calls::settle;
+use calls::signalling::on_line;
 use ike::event::IkeEvent;
-use ike::event::step_of;
-use response::REPLY_ROOM;
-use session::eap_packet;
 ghost use mathlib.Core.List.{[]};
 ghost use mathlib.Core.Path.{_≡_};
 ghost use lib.ListN.{length};
 ghost use Rattle.rules.specs.Answer.{partNamed, PartWithin};
-ghost use Rattle.rules.specs.Call.{begin, congestion, eap, error, final, give-up, init, timed};
 ghost use Rattle.rules.specs.Call as Call;
+ghost use Rattle.rules.specs.Call.{begin, congestion, eap, error, final, give-up, init, timed};
 ghost use Rattle.rules.specs.Run.{run};
-ghost use Rattle.ike.specs.Events.{eventOf};
-ghost use Rattle.scaltrovina.specs.Returned.{returned};
-
-// A call whose event comes with numbers alone.
-pub(crate) fn on_line(
-    table: &mut [u8],
-    tenant: u64,
-    line: u64,
-    time: u64,
-    event: IkeEvent,
-    answer: &mut [u64; 12],
-) -> u64
-    ensures { λ r. ⌜ returned r (now (answer .exit)) [] [] (now (table .exit)) ≡ run (timed tenant line time (eventOf event)) (now (table .entry)) ⌝ }
-{
-    let entered = enter(table, tenant, line, time, false);
-    if entered.refusal != 0 {
-        *answer = [0; 12];
-        return entered.refusal;
-    }
-    let found = entered.line;
-    let stepped = step_of(found, time, event);
-    settle(table, entered.pair, entered.at, stepped, answer)
-}
+ghost use Rattle.calls.specs.Returned.{returned};
 
 // Begins IKE with the chosen address.
 #[no_mangle]
@@ -78,14 +51,7 @@ pub extern "C" fn scal_eap(
     ensures { λ r. ⌜ returned r (now (answer .exit)) (partNamed (now (answer .exit)) [] [] (now (packet .entry))) [] (now (table .exit)) ≡ run (timed tenant line time (eap (now (packet .entry)))) (now (table .entry)) ⌝ }
     ensures { λ _. ⌜ PartWithin (now (answer .exit)) [] [] (now (packet .entry)) ⌝ }
 {
-    let entered = enter(table, tenant, line, time, false);
-    if entered.refusal != 0 {
-        *answer = [0; 12];
-        return entered.refusal;
-    }
-    let found = entered.line;
-    let stepped = eap_packet(found, time, packet);
-    settle(table, entered.pair, entered.at, stepped, answer)
+    calls::signalling::eap(table, tenant, line, time, packet, answer)
 }
 
 // Writes the response that is owed, with AN-parameters and NAS.
@@ -102,13 +68,7 @@ pub extern "C" fn scal_reply(
 ) -> u64
     ensures { λ r. ⌜ returned r (now (answer .exit)) [] (now (reply .exit)) (now (table .exit)) ≡ run (timed tenant line time (Call.reply (now (parameters .entry)) (now (nas .entry)) (length (now (reply .entry))))) (now (table .entry)) ⌝ }
 {
-    let entered = enter(table, tenant, line, time, reply.len() < REPLY_ROOM);
-    if entered.refusal != 0 {
-        return turned_away(entered.refusal, reply, answer);
-    }
-    let found = entered.line;
-    let stepped = session::reply(found, time, parameters, nas, reply);
-    settle(table, entered.pair, entered.at, stepped, answer)
+    calls::signalling::reply(table, tenant, line, time, parameters, nas, reply, answer)
 }
 
 // Takes the final IKE_AUTH answer.

@@ -1,11 +1,11 @@
 // The tunnels of a live line.
-use crate::signalling::on_line;
+use calls::signalling::on_line;
 use ike::event::IkeEvent;
 ghost use mathlib.Core.List.{[]};
 ghost use mathlib.Core.Path.{_≡_};
 ghost use Rattle.rules.specs.Call.{child-deleted, child-made, ike-delete, timed};
 ghost use Rattle.rules.specs.Run.{run};
-ghost use Rattle.scaltrovina.specs.Returned.{returned};
+ghost use Rattle.calls.specs.Returned.{returned};
 
 // Adds a child association.
 #[no_mangle]

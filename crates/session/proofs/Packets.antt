@@ -9,7 +9,7 @@ use denote.Enum.Declared.{tagOf}
 use types.Run.{OneOf, miss}
 use Rattle.octets.specs.Part.{padded, part, zeros}
 use Rattle.octets.specs.Refusal.{refusal}
-use Rattle.eap.specs.Packet.{nasOf, readPacket}
+use Rattle.eap.specs.Packet.{isRequest, nasOf, readPacket}
 use Rattle.eap.specs.declared.Packet.{Packet}
 use Rattle.eap.specs.declared.Packet.the-variants.{Start, NasRequest, Success, NasResponse, Stop, Other}
 use Rattle.eap.proofs.Packet.{the-type}
@@ -19,7 +19,7 @@ use Rattle.record.specs.declared.Record.{Record}
 use Rattle.rules.specs.Answer.{PartWithin, eventRoom, lentIn, numbersOf, partNamed, twelve}
 use Rattle.rules.specs.Call.{eap, lastTime}
 use Rattle.rules.specs.Life.{current, goes, keeps, outcome, packetTaken}
-use Rattle.rules.specs.Refusals.{hasNoRoom, isAllowed, isDue, isHeldFull, isMalformed, isOutOfRange, isSpiTaken, isTakenApart, refusalsOf}
+use Rattle.rules.specs.Refusals.{hasNoRoom, isAllowed, isDue, isHeldFull, isMalformed, isOutOfRange, isSpiTaken, refusalsOf}
 use Rattle.rules.specs.declared.Action.{Action}
 use Rattle.rules.specs.declared.Action.the-variants as Action
 use Rattle.step.specs.Step.{Gives, effect, effectIn}
@@ -38,8 +38,8 @@ module _ (r : Stepped) (x found : Line) (p : Packet) where
 
 -- a packet that is none of the three is turned away
 pub foreign : (p : Packet) → OneOf (1 ∷ 2 ∷ 3 ∷ 4 ∷ 5 ∷ []) (tagOf the-type p) → OneOf (0 ∷ 2 ∷ 3 ∷ 4 ∷ 5 ∷ []) (tagOf the-type p)
-    → OneOf (0 ∷ 1 ∷ 3 ∷ 4 ∷ 5 ∷ []) (tagOf the-type p) → isTakenApart p ≡ false
-unfolding isTakenApart
+    → OneOf (0 ∷ 1 ∷ 3 ∷ 4 ∷ 5 ∷ []) (tagOf the-type p) → isRequest p ≡ false
+unfolding isRequest
 foreign (Start i) k₁ k₂ k₃ = absurd (miss (1 ∷ 2 ∷ 3 ∷ 4 ∷ 5 ∷ []) 0 tt k₁)
 foreign (NasRequest i at n) k₁ k₂ k₃ = absurd (miss (0 ∷ 2 ∷ 3 ∷ 4 ∷ 5 ∷ []) 1 tt k₂)
 foreign (Success i) k₁ k₂ k₃ = absurd (miss (0 ∷ 1 ∷ 3 ∷ 4 ∷ 5 ∷ []) 2 tt k₃)
@@ -48,9 +48,9 @@ foreign (Stop i) k₁ k₂ k₃ = refl
 foreign Other k₁ k₂ k₃ = refl
 
 -- octets are well formed where the packet that they are read as is taken apart
-pub by-read : (l : List ℕ) {p : Packet} {b : Bool} → p ≡ readPacket l → isTakenApart p ≡ b → isMalformed (eap l) ≡ not b
+pub by-read : (l : List ℕ) {p : Packet} {b : Bool} → p ≡ readPacket l → isRequest p ≡ b → isMalformed (eap l) ≡ not b
 unfolding isMalformed
-by-read l read e = ap (λ (q : Packet). not (isTakenApart q)) (sym read) ∙ ap not e
+by-read l read e = ap (λ (q : Packet). not (isRequest q)) (sym read) ∙ ap not e
 
 -- the part is what the action's numbers name, and it lies within the packet
 module _ (l : List ℕ) (x : Line) where
@@ -93,7 +93,7 @@ module _ (l : List ℕ) (time : ℕ) (line f : Record) (r : Stepped) (is-found :
       subst (Shown l time line r) (sym (g .action-is)) (turned-away (eap l) time line f r is-found n number g, (omega arith, g .in-arrays))
 
   -- a packet that is taken apart is refused where it is not due, and its outcome is the definition's where it is
-  module _ (timely : ltb lastTime time ≡ false) (p : Packet) (read : p ≡ readPacket l) (apart : isTakenApart p ≡ true) where
+  module _ (timely : ltb lastTime time ≡ false) (p : Packet) (read : p ≡ readPacket l) (apart : isRequest p ≡ true) where
     formed : isMalformed (eap l) ≡ false
     formed = by-read l read apart
 

@@ -25,6 +25,9 @@ pub const RECORDS: usize = 32;
 
 pub const TABLE: usize = RECORDS * RECORD;
 
+// The number that a free record has in the place of a pair.
+pub const FREE_PAIR: u64 = 0;
+
 // The number of the pair of a record.
 fn pair_at(table: &[u8], i: usize) -> u64
     requires { ⌜ recordLength * i + recordLength ≤ length (now table) ⌝ }
@@ -73,7 +76,7 @@ fn is_once(table: &[u8], i: usize) -> bool
     ensures { λ r. ⌜ r ≡ pairOnce (now (table .entry)) i ⌝ }
 {
     let pair = pair_at(table, i);
-    if pair == 0 {
+    if pair == FREE_PAIR {
         return true;
     }
     find(table, i, pair) == i

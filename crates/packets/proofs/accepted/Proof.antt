@@ -5,7 +5,7 @@ use Rattle.packets.proofs.accepted.Statement.{statement}
 use Rattle.packets.proofs.accepted.Tie as tie
 
 returns : tie.Need-returns
-unfolding packetAnswer fieldsOnly
+unfolding fieldsOnly
 returns c = refl
 
 pub accepted-spec : {M : Type 1} → statement M

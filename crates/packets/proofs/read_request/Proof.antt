@@ -2,7 +2,7 @@
 use mathlib.Core.Path.{sym, ap, _∙_}
 use borrow.Author.Needs.{needs}
 use Rattle.octets.specs.Part.{padded, zeros}
-use Rattle.eap.specs.Packet.{packetNumbers}
+use Rattle.eap.specs.Packet.{isRequest, packetNumbers}
 use Rattle.packets.specs.Packets.{readRequest, requestAnswer}
 use Rattle.packets.proofs.read_request.Statement.{statement}
 use Rattle.packets.proofs.read_request.Tie as tie
@@ -47,27 +47,27 @@ refused-requires-3 : tie.Need-refused-requires-3
 refused-requires-3 c κs = search needs
 
 returns : tie.Need-returns
-unfolding readRequest requestAnswer packetNumbers padded zeros
+unfolding readRequest requestAnswer isRequest packetNumbers padded zeros
 returns c = c .accepted .ensures ∙ ap requestAnswer (sym (c .before .before .identifier .given .1) ∙ c .before .before .before .before .read .ensures)
 
 returns-2 : tie.Need-returns-2
-unfolding readRequest requestAnswer packetNumbers padded zeros
+unfolding readRequest requestAnswer isRequest packetNumbers padded zeros
 returns-2 c = c .accepted2 .ensures ∙ ap requestAnswer (sym (c .before .before .identifier2 .given .1) ∙ c .before .before .before .before .read .ensures)
 
 returns-3 : tie.Need-returns-3
-unfolding readRequest requestAnswer packetNumbers padded zeros
+unfolding readRequest requestAnswer isRequest packetNumbers padded zeros
 returns-3 c = c .accepted3 .ensures ∙ ap requestAnswer (sym (c .before .before .identifier3 .given .1) ∙ c .before .before .before .before .read .ensures)
 
 returns-4 : tie.Need-returns-4
-unfolding readRequest requestAnswer
+unfolding readRequest requestAnswer isRequest
 returns-4 c = c .refused .ensures ∙ ap requestAnswer (sym (c .before .enum-told .given .1) ∙ c .before .before .before .read .ensures)
 
 returns-5 : tie.Need-returns-5
-unfolding readRequest requestAnswer
+unfolding readRequest requestAnswer isRequest
 returns-5 c = c .refused2 .ensures ∙ ap requestAnswer (sym (c .before .enum-told2 .given .1) ∙ c .before .before .before .read .ensures)
 
 returns-6 : tie.Need-returns-6
-unfolding readRequest requestAnswer
+unfolding readRequest requestAnswer isRequest
 returns-6 c = c .refused3 .ensures ∙ ap requestAnswer (sym (c .before .enum-told3 .given .1) ∙ c .before .before .before .read .ensures)
 
 pub read-request-spec : {M : Type 1} → statement M

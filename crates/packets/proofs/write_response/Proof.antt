@@ -1,7 +1,7 @@
 -- `packets::write_response` meets its contract: the numbers are those of the packet that was written.
 use borrow.Author.Needs.{needs}
 use Rattle.eap.specs.Packet.{packetNumbers}
-use Rattle.packets.specs.Packets.{writtenPacket}
+use Rattle.response.specs.Response.{writtenPacket}
 use Rattle.packets.proofs.Answers.{is-written, not-written}
 use Rattle.packets.proofs.write_response.Statement.{statement}
 use Rattle.packets.proofs.write_response.Tie as tie

@@ -1,7 +1,8 @@
 -- `session::eap_packet` meets its contract: each packet that is taken apart is the one that was read, and every other is malformed.
 use mathlib.Core.Path.{refl, sym, _∙_}
 use borrow.Author.Needs.{needs}
-use Rattle.rules.specs.Refusals.{isOutOfRange, isTakenApart}
+use Rattle.eap.specs.Packet.{isRequest}
+use Rattle.rules.specs.Refusals.{isOutOfRange}
 use Rattle.step.proofs.Steps.{late, malformed}
 use Rattle.session.proofs.Packets.{away, by-read, foreign, shown}
 use Rattle.session.proofs.eap_packet.Statement.{statement}
@@ -31,7 +32,7 @@ eap-start-requires : tie.Need-eap-start-requires
 eap-start-requires c κs = search needs
 
 returns-2 : tie.Need-returns-2
-unfolding isTakenApart
+unfolding isRequest
 returns-2 c =
     let read = c .before .before .before .before in
     let late = read .before .before in
@@ -45,7 +46,7 @@ eap-nas-requires : tie.Need-eap-nas-requires
 eap-nas-requires c κs = search needs
 
 returns-3 : tie.Need-returns-3
-unfolding isTakenApart
+unfolding isRequest
 returns-3 c =
     let read = c .before .before .before .before .before in
     let late = read .before .before in
@@ -71,7 +72,7 @@ eap-success-requires : tie.Need-eap-success-requires
 eap-success-requires c κs = search needs
 
 returns-5 : tie.Need-returns-5
-unfolding isTakenApart
+unfolding isRequest
 returns-5 c =
     let read = c .before .before .before .before .before .before in
     let late = read .before .before in

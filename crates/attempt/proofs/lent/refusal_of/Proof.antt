@@ -5,12 +5,12 @@ use Rattle.octets.specs.Refusal.{refusal}
 use Rattle.octets.specs.Row.{isSome}
 use Rattle.config.specs.Settings.{parsed}
 use Rattle.rules.specs.Refusals.{isHomeAbroad}
-use Rattle.attempt.specs.Lent.{factsOption}
+use Rattle.attempt.specs.Lent.{factsOption, readRefusals}
 use Rattle.attempt.proofs.lent.refusal_of.Statement.{statement}
 use Rattle.attempt.proofs.lent.refusal_of.Tie as tie
 
 returns : tie.Need-returns
-unfolding parsed isHomeAbroad isSome refusal
+unfolding parsed isHomeAbroad isSome refusal readRefusals
 returns c = rw (not-true (c .before .before .args .text .ok) (c .if1 .taken))
 
 enum-known-facts : tie.Need-enum-known-facts
@@ -20,20 +20,20 @@ enum-told : tie.Need-enum-told
 enum-told c = search needs
 
 returns-2 : tie.Need-returns-2
-unfolding parsed isHomeAbroad isSome refusal factsOption
+unfolding parsed isHomeAbroad isSome refusal readRefusals factsOption
 returns-2 c = rw (not-false (c .before .before .before .before .args .text .ok) (c .before .before .if1 .left), c .enum-told .given .1)
 
 is-home-abroad-requires : tie.Need-is-home-abroad-requires
 is-home-abroad-requires c κs = search needs
 
 returns-3 : tie.Need-returns-3
-unfolding parsed isHomeAbroad isSome refusal factsOption
+unfolding parsed isHomeAbroad isSome refusal readRefusals factsOption
 returns-3 c =
     let first = c .before .before .before .before in
     rw (not-false (first .before .before .before .before .args .text .ok) (first .before .before .if1 .left), first .facts .given .1, ← c .before .is-home-abroad .ensures, c .if2 .taken)
 
 returns-4 : tie.Need-returns-4
-unfolding parsed isHomeAbroad isSome refusal factsOption
+unfolding parsed isHomeAbroad isSome refusal readRefusals factsOption
 returns-4 c =
     let first = c .before .before .before .before in
     rw (not-false (first .before .before .before .before .args .text .ok) (first .before .before .if1 .left), first .facts .given .1, ← c .before .is-home-abroad .ensures, c .if2 .left)

@@ -1,6 +1,5 @@
 -- `ike::event::step_of` meets its contract: each event has its step.
 use borrow.Author.Needs.{needs}
-use Rattle.ike.specs.Events.{eventOf}
 use Rattle.ike.proofs.event.step_of.Statement.{statement}
 use Rattle.ike.proofs.event.step_of.Tie as tie
 
@@ -59,39 +58,30 @@ ike-delete-requires : tie.Need-ike-delete-requires
 ike-delete-requires c κs = search needs
 
 returns : tie.Need-returns
-unfolding eventOf
 returns c = rw (c .before .enum-told .given .1) (c .begin .ensures)
 
 returns-2 : tie.Need-returns-2
-unfolding eventOf
 returns-2 c = rw (c .before .enum-told2 .given .1) (c .init-answer .ensures)
 
 returns-3 : tie.Need-returns-3
-unfolding eventOf
 returns-3 c = rw (c .before .before .event .given .1) (c .final-answer .ensures)
 
 returns-4 : tie.Need-returns-4
-unfolding eventOf
 returns-4 c = rw (c .before .before .event2 .given .1) (c .error .ensures)
 
 returns-5 : tie.Need-returns-5
-unfolding eventOf
 returns-5 c = rw (c .before .before .event3 .given .1) (c .congestion .ensures)
 
 returns-6 : tie.Need-returns-6
-unfolding eventOf
 returns-6 c = rw (c .before .enum-told3 .given .1) (c .give-up .ensures)
 
 returns-7 : tie.Need-returns-7
-unfolding eventOf
 returns-7 c = rw (c .before .before .event4 .given .1) (c .child-made .ensures)
 
 returns-8 : tie.Need-returns-8
-unfolding eventOf
 returns-8 c = rw (c .before .before .event5 .given .1) (c .child-deleted .ensures)
 
 returns-9 : tie.Need-returns-9
-unfolding eventOf
 returns-9 c = rw (c .before .enum-told4 .given .1) (c .ike-delete .ensures)
 
 pub step-of-spec : {M : Type 1} → statement M

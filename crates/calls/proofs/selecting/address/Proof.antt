@@ -1,0 +1,52 @@
+-- `calls::selecting::address` meets its contract.
+use mathlib.Core.Path.{refl}
+use borrow.Author.Needs.{needs}
+use Rattle.octets.specs.Part.{zeros}
+use Rattle.rules.specs.Answer.{eventRoom, roomOf}
+use Rattle.rules.specs.Call.{address}
+use Rattle.rules.specs.Refusals.{isShort, leastEventRoom, leastRoom}
+use Rattle.calls.proofs.Timed.{taken, turned-away}
+use Rattle.calls.proofs.selecting.address.Statement.{statement}
+use Rattle.calls.proofs.selecting.address.Tie as tie
+
+enter-requires : tie.Need-enter-requires
+enter-requires c κs = search needs
+
+same-length : tie.Need-same-length
+same-length c = search needs
+
+returns : tie.Need-returns
+unfolding isShort roomOf leastRoom leastEventRoom eventRoom zeros
+returns c = turned-away _ _ _ (address _) _ _ _ refl (c .before .before .before .enter .ensures) (c .before .if1 .taken) _ _ _ refl refl refl
+
+address-answer-requires : tie.Need-address-answer-requires
+address-answer-requires c κs = c .before .before .before .enter .ensures .passes (c .before .if1 .left) .in-arrays
+
+settle-requires : tie.Need-settle-requires
+settle-requires c κs =
+    let step = c .before .before in
+    let passes = step .before .before .before .before .enter .ensures .passes (step .before .before .if1 .left) in
+    (passes .at-is, passes .within, step .address-answer .ensures .1)
+
+same-length-2 : tie.Need-same-length-2
+same-length-2 c = search needs
+
+returns-2 : tie.Need-returns-2
+unfolding isShort roomOf leastRoom leastEventRoom eventRoom zeros
+returns-2 c =
+    let settle = c .before .before .settle in
+    let step = c .before .before .before .before .before in
+    let passes = step .before .before .before .before .enter .ensures .passes (step .before .before .if1 .left) in
+    taken _ _ _ (address _) _ _ _ refl passes (step .address-answer .result) _ _ (step .address-answer .ensures .0) _ _ _ (settle .ensures .0) (settle .ensures .1 .0) (settle .ensures .1 .1)
+
+pub address-spec : {M : Type 1} → statement M
+address-spec =
+    tie.close
+    (tie.spec
+    enter-requires
+    same-length
+    returns
+    address-answer-requires
+    settle-requires
+    same-length-2
+    returns-2)

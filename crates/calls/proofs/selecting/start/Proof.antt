@@ -1,0 +1,72 @@
+-- `calls::selecting::start` meets its contract.
+use mathlib.Core.Path.{refl}
+use borrow.Author.Needs.{needs}
+use borrow.Author.Tests.{ltb-false}
+use Rattle.rules.specs.Answer.{eventRoom, roomOf}
+use Rattle.rules.specs.Call.{start, startNumbers}
+use Rattle.rules.specs.Refusals.{isShort, leastEventRoom, leastRoom}
+use Rattle.calls.proofs.Timed.{taken-named, turned-away-named}
+use Rattle.calls.proofs.selecting.start.Statement.{statement}
+use Rattle.calls.proofs.selecting.start.Tie as tie
+
+enter-requires : tie.Need-enter-requires
+enter-requires c κs = search needs
+
+refuse-requires : tie.Need-refuse-requires
+refuse-requires c κs = search needs
+
+same-length : tie.Need-same-length
+same-length c = search needs
+
+same-length-2 : tie.Need-same-length-2
+same-length-2 c = search needs
+
+returns : tie.Need-returns
+unfolding isShort roomOf leastRoom leastEventRoom eventRoom
+returns c =
+    let away = c .before .before .refuse .ensures in
+    let first = c .before .before .before .before .before in
+    turned-away-named _ _ _ (start _ _ _) _ _ _ refl _ _ _ (first .before .before .enter .ensures) (first .if1 .taken) _ _ _ (away .0) (away .1 .1) (away .1 .0)
+
+start-requires : tie.Need-start-requires
+start-requires c κs =
+    let first = c .before .before in
+    let passes = first .before .before .enter .ensures .passes (first .if1 .left) in
+    (passes .in-arrays, ltb-false _ _ (passes .buffer-fits))
+
+settle-requires : tie.Need-settle-requires
+settle-requires c κs =
+    let step = c .before .before .before .before in
+    let first = step .before .before .before in
+    let passes = first .before .before .enter .ensures .passes (first .if1 .left) in
+    (passes .at-is, passes .within, step .start .ensures .1 .1)
+
+same-length-3 : tie.Need-same-length-3
+same-length-3 c = search needs
+
+same-length-4 : tie.Need-same-length-4
+same-length-4 c = search needs
+
+returns-2 : tie.Need-returns-2
+unfolding isShort roomOf leastRoom leastEventRoom eventRoom startNumbers
+returns-2 c =
+    let settle = c .before .before .settle in
+    let step = c .before .before .before .before .before .before .before in
+    let first = step .before .before .before in
+    let passes = first .before .before .enter .ensures .passes (first .if1 .left) in
+    taken-named _ _ _ (start _ _ _) _ _ _ refl _ _ _ passes (step .start .result) _ (step .start .ensures .0) (step .start .ensures .1 .0) _ _ _ (settle .ensures .0) (settle .ensures .1 .0) (settle .ensures .1 .1)
+
+pub start-spec : {M : Type 1} → statement M
+start-spec =
+    tie.close
+    (tie.spec
+    enter-requires
+    refuse-requires
+    same-length
+    same-length-2
+    returns
+    start-requires
+    settle-requires
+    same-length-3
+    same-length-4
+    returns-2)

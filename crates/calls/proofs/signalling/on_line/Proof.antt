@@ -1,0 +1,54 @@
+-- `calls::signalling::on_line` meets its contract.
+use mathlib.Core.Path.{refl}
+use borrow.Author.Needs.{needs}
+use Rattle.octets.specs.Part.{zeros}
+use Rattle.ike.specs.Events.{eventOf}
+use Rattle.calls.proofs.Timed.{never-short, no-buffer, taken, turned-away}
+use Rattle.calls.proofs.signalling.on_line.Statement.{statement}
+use Rattle.calls.proofs.signalling.on_line.Tie as tie
+
+enter-requires : tie.Need-enter-requires
+enter-requires c κs = search needs
+
+same-length : tie.Need-same-length
+same-length c = search needs
+
+returns : tie.Need-returns
+unfolding zeros
+returns c =
+    let a = c .before .before .before .before .before .before .args in
+    turned-away _ _ _ (eventOf (a .event)) _ _ _ (never-short _ _ _ (a .event)) (c .before .before .before .enter .ensures) (c .before .if1 .taken) _ _ _ refl refl (no-buffer (a .event))
+
+step-of-requires : tie.Need-step-of-requires
+step-of-requires c κs =
+    let passes = c .before .before .before .enter .ensures .passes (c .before .if1 .left) in
+    (passes .in-arrays, passes .sound)
+
+settle-requires : tie.Need-settle-requires
+settle-requires c κs =
+    let step = c .before .before in
+    let passes = step .before .before .before .before .enter .ensures .passes (step .before .before .if1 .left) in
+    (passes .at-is, passes .within, step .step-of .ensures .1)
+
+same-length-2 : tie.Need-same-length-2
+same-length-2 c = search needs
+
+returns-2 : tie.Need-returns-2
+returns-2 c =
+    let settle = c .before .before .settle in
+    let step = c .before .before .before .before .before in
+    let passes = step .before .before .before .before .enter .ensures .passes (step .before .before .if1 .left) in
+    let event = step .before .before .before .before .before .before .before .args .event in
+    taken _ _ _ (eventOf event) _ _ _ (never-short _ _ _ event) passes (step .step-of .result) _ _ (step .step-of .ensures .0) _ _ _ (settle .ensures .0) (settle .ensures .1 .0) (settle .ensures .1 .1)
+
+pub on-line-spec : {M : Type 1} → statement M
+on-line-spec =
+    tie.close
+    (tie.spec
+    enter-requires
+    same-length
+    returns
+    step-of-requires
+    settle-requires
+    same-length-2
+    returns-2)

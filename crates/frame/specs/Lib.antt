@@ -1,0 +1,2 @@
+-- What the calls on the table share.
+pub mod Entering

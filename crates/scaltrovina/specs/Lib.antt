@@ -1,2 +1,0 @@
--- What the exported calls return.
-pub mod Returned
