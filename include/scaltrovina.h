@@ -85,6 +85,7 @@ extern "C" {
 #define SCAL_CODE_MAX 999
 #define SCAL_ERROR_MAX 16383
 #define SCAL_SPI_MIN 256
+#define SCAL_SPI_MAX UINT64_C(4294967295)
 #define SCAL_SESSION_MAX 15
 
 /* How many children and holds a line may have. */
@@ -104,7 +105,7 @@ enum scal_refusal {
     SCAL_REFUSED_FULL = 6,       /* all 32 records are taken */
     SCAL_REFUSED_EARLY = 7,      /* the time is earlier than the line's last accepted one */
     SCAL_REFUSED_RANGE = 8,      /* a number or a count is out of its range */
-    SCAL_REFUSED_MALFORMED = 9,  /* a configuration text or a packet is not well formed */
+    SCAL_REFUSED_MALFORMED = 9,  /* a configuration text, AN-parameters or a packet is not well formed */
     SCAL_REFUSED_PHASE = 10,     /* the event is not allowed in the line's phase */
     SCAL_REFUSED_SPI = 11,       /* the SPI is on this line already */
     SCAL_REFUSED_CHILDREN = 12,  /* eight children stand */
@@ -124,7 +125,7 @@ static inline const char *scal_refusal_name(uint64_t refusal)
     case SCAL_REFUSED_FULL: return "all 32 records are taken";
     case SCAL_REFUSED_EARLY: return "the time is earlier than the line's last accepted one";
     case SCAL_REFUSED_RANGE: return "a number or a count is out of its range";
-    case SCAL_REFUSED_MALFORMED: return "a text or a packet is not well formed";
+    case SCAL_REFUSED_MALFORMED: return "a text, AN-parameters or a packet is not well formed";
     case SCAL_REFUSED_PHASE: return "the event is not allowed in this phase";
     case SCAL_REFUSED_SPI: return "the SPI is on this line already";
     case SCAL_REFUSED_CHILDREN: return "eight children stand";
@@ -279,8 +280,8 @@ uint64_t scal_country(uint8_t *table, size_t table_length, uint64_t tenant, uint
                       size_t name_length, scal_answer *answer);
 
 /*
- * Takes the addresses that DNS gave for the gateway's name, in phase name: entries of SCAL_ADDRESS_LENGTH octets, none without a reply.
- * The first of the local IP version that is not on hold is chosen.
+ * Takes the addresses that DNS gave for the gateway's name, in phase name: entries of SCAL_ADDRESS_LENGTH octets. No reply is an empty
+ * list. The first address of the local IP version that is not on hold is chosen.
  * Refused by 8 (addresses out of range).
  * Answer: SCAL_ACTION_CHOSEN, or SCAL_ACTION_STOPPED (stop 4); both with `passed`.
  */
@@ -349,8 +350,8 @@ uint64_t scal_give_up(uint8_t *table, size_t table_length, uint64_t tenant, uint
 
 /*
  * Adds a child association behind the others, in phase live.
- * Refused by 8 (spi not SCAL_SPI_MIN to 4,294,967,295, session not 1 to SCAL_SESSION_MAX), 11 (the SPI is on this line already)
- * and 12 (eight children stand).
+ * Refused by 8 (spi not SCAL_SPI_MIN to SCAL_SPI_MAX, session not 1 to SCAL_SESSION_MAX), 11 (the SPI is on this line already) and
+ * 12 (eight children stand).
  * Answer: SCAL_ACTION_NONE.
  */
 uint64_t scal_child_made(uint8_t *table, size_t table_length, uint64_t tenant, uint64_t line, uint64_t time, uint64_t spi,
@@ -427,8 +428,8 @@ uint64_t scal_write_response(uint64_t identifier, const uint8_t *parameters, siz
                              size_t nas_length, uint8_t *packet, size_t packet_length, scal_packet_fields *fields);
 
 /*
- * Reads the AN-parameter at a place of a block; a walk starts at 0 and goes on at `next` while one is found.
- * Refused by 8 (at past the end of the block, block over SCAL_PARAMETERS_MAX) and 9 (the parameter runs past the end).
+ * Reads the AN-parameter at a place of a block. A walk starts at 0, goes on at `next` and ends where a call is accepted with `found` 0.
+ * Refused by 8 (at past the end of the block, block over SCAL_PARAMETERS_MAX) and 9 (the parameter runs past the end: a broken block).
  */
 uint64_t scal_parameter(const uint8_t *parameters, size_t parameters_length, uint64_t at, scal_parameter_fields *fields);
 

@@ -8,6 +8,7 @@ work=$(mktemp -d) || exit 2
 trap 'rm -rf "$work"' EXIT
 
 archive=target/staticlib/libscaltrovina.a
+prefix="$work/a prefix"
 strict=(-Wall -Wextra -Wpedantic -Werror)
 passed=0
 failed=0
@@ -36,12 +37,12 @@ header_stands_alone() { # COMPILER STANDARD SUFFIX
     "$1" "-std=$2" "${strict[@]}" -Iinclude -c -o "$work/header.o" "$work/header.$3"
 }
 
-example_is_built() {
-    "${CC:-cc}" -std=c99 "${strict[@]}" -Iinclude -o "$work/line" examples/line.c "$archive"
+names_have_their_numbers() {
+    "${CC:-cc}" -std=c99 "${strict[@]}" -Iinclude -o "$work/fields" tests/fields.c "$archive" && "$work/fields"
 }
 
 example_says_its_text() {
-    "$work/line" >"$work/line.out" && diff examples/line.out "$work/line.out"
+    make -s --no-print-directory example >"$work/line.out" && diff examples/line.out "$work/line.out"
 }
 
 # The three files that are installed, and no other.
@@ -51,7 +52,7 @@ installed() { # FOLDER
 }
 
 prefix_is_filled() {
-    make -s install PREFIX="$work/prefix" DESTDIR= && installed "$work/prefix"
+    make -s install PREFIX="$prefix" DESTDIR= && installed "$prefix"
 }
 
 stage_is_filled() {
@@ -60,7 +61,7 @@ stage_is_filled() {
 }
 
 package() { # ARGUMENT..
-    PKG_CONFIG_PATH='' PKG_CONFIG_LIBDIR="$work/prefix/lib/pkgconfig" pkg-config "$@" scaltrovina
+    PKG_CONFIG_PATH='' PKG_CONFIG_LIBDIR="$prefix/lib/pkgconfig" pkg-config "$@" scaltrovina
 }
 
 write_program() { # FILE
@@ -80,13 +81,13 @@ int main(void)
 END
 }
 
-# A program outside the repository, with the flags of the installed package, says the package's version.
+# A program outside the repository, with the flags of the installed package as a shell reads them, says the package's version.
 program_runs() { # COMPILER STANDARD SUFFIX
     local flags version said
     flags=$(package --cflags --libs --static) && version=$(package --modversion) && [ -n "$version" ] || return 1
+    eval "flags=($flags)"
     write_program "$work/program.$3"
-    # shellcheck disable=SC2086
-    (cd "$work" && "$1" "-std=$2" "${strict[@]}" -o program "program.$3" $flags) && said=$("$work/program") || return 1
+    (cd "$work" && "$1" "-std=$2" "${strict[@]}" -o program "program.$3" "${flags[@]}") && said=$("$work/program") || return 1
     [ "$said" = "$version" ] || { echo "the program says '$said', the package '$version'"; return 1; }
 }
 
@@ -114,9 +115,9 @@ done
 check 'the header has the exported functions and their bounds' env PYTHONDONTWRITEBYTECODE=1 python3 tests/prototypes.py
 check 'the archive defines the calls of the header and nothing else' header_is_defined
 check 'the archive needs memcpy, memmove and memset at most' rest_is_defined
-check 'the example is built in strict C99' example_is_built
-check 'the example says what examples/line.out has' example_says_its_text
-check 'an empty prefix is filled by make install' prefix_is_filled
+check 'the fields and enumerations of the header have their numbers' names_have_their_numbers
+check 'the example is built in strict C99 and says what examples/line.out has' example_says_its_text
+check 'an empty prefix with a blank in its name is filled by make install' prefix_is_filled
 check 'a staged install keeps its prefix' stage_is_filled
 check 'a C program runs with the flags of pkg-config' program_runs "${CC:-cc}" c99 c
 check 'a C++ program runs with the flags of pkg-config' program_runs "${CXX:-c++}" c++11 cc
