@@ -172,7 +172,7 @@ static inline const char *scal_action_name(uint64_t action)
     case SCAL_ACTION_LIVE: return "the line is live";
     case SCAL_ACTION_RELEASED: return "release the associations";
     case SCAL_ACTION_ERROR: return "hand the error up";
-    default: return "no action";
+    default: return "no action number";
     }
 }
 
@@ -270,7 +270,8 @@ uint64_t scal_start(uint8_t *table, size_t table_length, uint64_t tenant, uint64
 
 /*
  * Takes the answer to the visited-country query, in phase country.
- * replied is 1 where DNS answered, else 0. networks has the listed PLMNs in entries of SCAL_NETWORK_LENGTH octets, none without a reply.
+ * replied is 1 where DNS answered, else 0. networks has the listed PLMNs in entries of SCAL_NETWORK_LENGTH octets, none without a reply:
+ * MCC, then MNC, each two octets, the upper one first.
  * Refused by 3 (name under SCAL_NAME_MIN), 8 (replied or networks out of range, text over SCAL_TEXT_MAX, the visited MCC is the text's
  * home MCC) and 9 (text not well formed).
  * Answer: SCAL_ACTION_STOPPED (stop 2, 3 or 4), SCAL_ACTION_ASK_NAME, or SCAL_ACTION_CHOSEN where the text gives an address.
@@ -281,7 +282,8 @@ uint64_t scal_country(uint8_t *table, size_t table_length, uint64_t tenant, uint
 
 /*
  * Takes the addresses that DNS gave for the gateway's name, in phase name: entries of SCAL_ADDRESS_LENGTH octets. No reply is an empty
- * list. The first address of the local IP version that is not on hold is chosen.
+ * list. An entry is the version (4 or 6) and 16 octets, for version 4 its four and twelve zeros. The first address of the local IP version
+ * that is not on hold is chosen.
  * Refused by 8 (addresses out of range).
  * Answer: SCAL_ACTION_CHOSEN, or SCAL_ACTION_STOPPED (stop 4); both with `passed`.
  */

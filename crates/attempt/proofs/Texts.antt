@@ -1,11 +1,11 @@
 -- What is read of a lent text, and what that says of the refusal of the event that lends it.
 use Prim.Native.Nat.{ℕ}
 use mathlib.Core.Bool.{Bool, true, false, cond, not, _||_, _&&_, false≢true}
-use mathlib.Core.List.{List, [], _∷_}
+use mathlib.Core.List.{List, []}
 use mathlib.Core.Option.{Option, none, some}
 use mathlib.Core.Path.{_≡_, refl, sym, ap, _∙_}
 use native.Mathlib.Omega.{arith}
-use Rattle.octets.specs.Refusal.{refusal, _when_}
+use Rattle.octets.specs.Refusal.{refusal}
 use Rattle.octets.specs.Row.{isSome}
 use Rattle.octets.proofs.Refusals.{refusal-ahead, refusal-step}
 use Rattle.octets.proofs.Search.{or-left, or-right}

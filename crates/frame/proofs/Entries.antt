@@ -1,14 +1,14 @@
 -- The refusal number of a call by its entry tests, and what they settle of a timed call.
 use Prim.Native.Nat.{ℕ, zero, suc, _+_, _*_, _≤_}
 use mathlib.Core.Bool.{Bool, true, false, not, _||_}
-use mathlib.Core.List.{List, [], _∷_}
+use mathlib.Core.List.{List, []}
 use mathlib.Core.Option.{Option, none, some}
 use mathlib.Core.Path.{_≡_, refl, sym, ap, _∙_}
 use native.Mathlib.Omega.{arith}
 use borrow.Author.Tests.{not-false}
 use lib.Dec.{leb, ltb}
 use lib.ListN.{length}
-use Rattle.octets.specs.Refusal.{Refusal, refusal, _when_}
+use Rattle.octets.specs.Refusal.{refusal}
 use Rattle.octets.specs.Row.{isSome}
 use Rattle.octets.proofs.Refusals.{refusal-ahead, refusal-step}
 use Rattle.record.specs.Line.{Line, lineOf, InArrays}

@@ -1,6 +1,6 @@
 -- `packets::accepted` meets its contract.
 use mathlib.Core.Path.{refl}
-use Rattle.packets.specs.Packets.{fieldsOnly, packetAnswer}
+use Rattle.packets.specs.Packets.{fieldsOnly}
 use Rattle.packets.proofs.accepted.Statement.{statement}
 use Rattle.packets.proofs.accepted.Tie as tie
 

@@ -1,7 +1,7 @@
 -- `packets::refused` meets its contract.
 use mathlib.Core.Path.{refl}
 use Rattle.octets.specs.Part.{zeros}
-use Rattle.packets.specs.Packets.{packetAnswer, refusedBy}
+use Rattle.packets.specs.Packets.{refusedBy}
 use Rattle.packets.proofs.refused.Statement.{statement}
 use Rattle.packets.proofs.refused.Tie as tie
 
