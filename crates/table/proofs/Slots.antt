@@ -1,5 +1,5 @@
 -- The laws of records by number.
-use Prim.Native.Nat.{ℕ, _+_, _*_, _≤_, _<_}
+use Prim.Native.Nat.{ℕ, _+_, _≤_, _<_}
 use mathlib.Core.Bool.{Bool, true, false, not, _&&_}
 use mathlib.Core.List.{List}
 use mathlib.Core.Path.{_≡_, refl, sym, ap, _∙_, subst}
@@ -9,23 +9,12 @@ use lib.Dec.{eqb, ltb}
 use lib.ListN.{length}
 use borrow.Author.Tests.{eq-eqb, ne-eqb, ltb-true, ltb-false}
 use Rattle.octets.specs.Digits.{field}
-use Rattle.octets.specs.Part.{zerosAt}
 use Rattle.octets.specs.Search.{all, least}
 use Rattle.octets.proofs.Search.{and-false, all-fails, each-all, least-bound, least-first, least-found, least-more, least-passes}
 use Rattle.record.specs.Octets.{recordLength}
 use Rattle.record.specs.Sound.{isRecord}
 use Rattle.record.proofs.Sounds.{child-octet, hold-octet, record-lists}
-use Rattle.table.specs.Table.{hasPair, isTable, lacksPair, pairAt, pairOnce, slot, slotSound, tableLength}
-
-module _ (l : List ℕ) (i : ℕ) where
-  -- a record is free, or sound
-  pub slot-free : zerosAt l (recordLength * i) recordLength ≡ true → true ≡ slotSound l i
-  unfolding slotSound
-  slot-free e = sym (rw e)
-
-  pub slot-used : zerosAt l (recordLength * i) recordLength ≡ false → (s : List ℕ) → s ≡ slot l i → isRecord s ≡ slotSound l i
-  unfolding slotSound
-  slot-used e s q = ap isRecord q ∙ sym (rw e)
+use Rattle.table.specs.Table.{hasPair, isTable, lacksPair, pairAt, pairOnce, slotSound, tableLength}
 
 -- the first record with a pair, of those before n
 module _ (l : List ℕ) (pair : ℕ) where

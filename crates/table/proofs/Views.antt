@@ -10,7 +10,7 @@ use lib.ListN.{length}
 use lib.Seq.{sets}
 use borrow.Author.Tests.{eqb-true, ne-eqb, leb-true, le-leb, lt-ltb, le-ltb}
 use Rattle.octets.specs.Digits.{field, number, numberFrom}
-use Rattle.octets.specs.Part.{part, same, zeros}
+use Rattle.octets.specs.Part.{part, same, zeros, zerosAt}
 use Rattle.octets.specs.Search.{allOf}
 use Rattle.octets.proofs.Parts.{same-equal}
 use Rattle.octets.proofs.Rows.{length-row, row-distinct, row-passes}
@@ -18,7 +18,7 @@ use Rattle.octets.proofs.Search.{and-left, and-right, and-false, either, least-
 use Rattle.record.specs.Octets.{lineFrom, recordLength}
 use Rattle.record.specs.Sound.{isRecord, lineSound, lineWritten}
 use Rattle.table.specs.Slots.{pairIn, isOf, isOpen, lineAt, slotLine, openPairs, pairsOnce, replaced, samePair, slotAt, slotFrom, slotsOf}
-use Rattle.table.specs.Table.{hasPair, isTable, pairAt, recordOf, slot, tableLength}
+use Rattle.table.specs.Table.{hasPair, isTable, pairAt, recordOf, slot, slotSound, tableLength}
 use Rattle.table.proofs.Found.{row-closed, row-line, row-open, row-replaced}
 use Rattle.table.proofs.Puts.{Kept, pair-from, pair-in, slot-here, slot-other, table-apart, table-kept}
 use Rattle.table.proofs.Room.{isPaired, has-room}
@@ -75,6 +75,28 @@ module _ (l : List ℕ) (pair : ℕ) where
 pub zeros-pair : field (zeros recordLength) 0 1 ≡ 0
 unfolding field number numberFrom part zeros
 zeros-pair = refl
+
+or-false : (b : Bool) → b || false ≡ b
+or-false true = refl
+or-false false = refl
+
+-- a record without a pair is sound exactly where it is zeros, and one with a pair is not zeros
+module _ (l : List ℕ) (i : ℕ) where
+  own-pair : field (slot l i) 0 1 ≡ pairAt l i
+  unfolding slotAt
+  own-pair = sym (pair-from (slot l i)) ∙ pair-in l i
+
+  pub pairless : pairAt l i ≡ 0 → zerosAt l (recordLength * i) recordLength ≡ slotSound l i
+  unfolding slotSound isRecord
+  pairless e = sym (rw (own-pair ∙ e) (or-false (zerosAt l (recordLength * i) recordLength)))
+
+  pub paired : (pairAt l i ≡ 0 → ⊥) → (s : List ℕ) → s ≡ slot l i → isRecord s ≡ slotSound l i
+  unfolding slotSound zerosAt slot
+  paired h s q = ap isRecord q ∙ go (same (slot l i) (zeros recordLength)) refl
+    where
+      go : (b : Bool) → same (slot l i) (zeros recordLength) ≡ b → isRecord (slot l i) ≡ b || isRecord (slot l i)
+      go true e = absurd (h (sym own-pair ∙ ap (λ (t : List ℕ). field t 0 1) (same-equal (slot l i) (zeros recordLength) e) ∙ zeros-pair))
+      go false e = refl
 
 -- the pair of a record that is free or sound
 kept-pair : (s : List ℕ) → Kept s → field s 0 1 ≤ 64

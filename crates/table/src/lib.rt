@@ -64,8 +64,8 @@ fn is_slot(table: &[u8], i: usize) -> bool
     requires { ⌜ recordLength * i + recordLength ≤ length (now table) ⌝ }
     ensures { λ r. ⌜ r ≡ slotSound (now (table .entry)) i ⌝ }
 {
-    if zeros_at(table, RECORD * i, RECORD) {
-        return true;
+    if pair_at(table, i) == FREE_PAIR {
+        return zeros_at(table, RECORD * i, RECORD);
     }
     is_record(part(table, RECORD * i, RECORD))
 }

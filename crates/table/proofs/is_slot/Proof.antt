@@ -1,10 +1,13 @@
--- `table::is_slot` meets its contract: zeros are free, and anything else is a record.
+-- `table::is_slot` meets its contract: a record without a pair is zeros, and anything else is a record.
 use mathlib.Core.Path.{sym, _∙_}
 use borrow.Author.Needs.{needs}
 use Rattle.table.specs.Table.{slot}
-use Rattle.table.proofs.Slots.{slot-free, slot-used}
+use Rattle.table.proofs.Views.{paired, pairless}
 use Rattle.table.proofs.is_slot.Statement.{statement}
 use Rattle.table.proofs.is_slot.Tie as tie
+
+pair-at-requires : tie.Need-pair-at-requires
+pair-at-requires c κs = search needs
 
 mul-zeros-at : tie.Need-mul-zeros-at
 mul-zeros-at c = search needs
@@ -13,7 +16,7 @@ zeros-at-requires : tie.Need-zeros-at-requires
 zeros-at-requires c κs = search needs
 
 returns : tie.Need-returns
-returns c = slot-free _ _ (sym (c .before .zeros-at .ensures) ∙ c .if1 .taken)
+returns c = c .zeros-at .ensures ∙ pairless _ _ (sym (c .before .before .pair-at .ensures) ∙ c .before .if1 .taken)
 
 mul-part : tie.Need-mul-part
 mul-part c = search needs
@@ -26,12 +29,14 @@ is-record-requires c κs = search needs
 
 returns-2 : tie.Need-returns-2
 unfolding slot
-returns-2 c = c .is-record .ensures ∙ slot-used _ _ (sym (c .before .before .before .zeros-at .ensures) ∙ c .before .before .if1 .left) _ (c .before .part .ensures .0)
+returns-2 c =
+    c .is-record .ensures ∙ paired _ _ (λ e. c .before .before .if1 .left (c .before .before .before .pair-at .ensures ∙ e)) _ (c .before .part .ensures .0)
 
 pub is-slot-spec : {M : Type 1} → statement M
 is-slot-spec =
     tie.close
     (tie.spec
+    pair-at-requires
     mul-zeros-at
     zeros-at-requires
     returns
