@@ -1,4 +1,4 @@
-# Builds the library for C, installs it and runs its example and its tests. All that is built lies under target/.
+# Builds the library for C, installs it, compares it with the second program and runs its example and its tests. All that is built lies under target/.
 
 PREFIX = /usr/local
 DESTDIR =
@@ -32,10 +32,26 @@ $(example): examples/line.c $(header) $(archive)
 example: $(example)
 	$(example)
 
+# The library against the second program, for so many seconds.
+SECONDS = 60
+
+compare: $(archive)
+	CARGO_TARGET_DIR='$(CURDIR)/target/cargo' cargo run --offline --release -q --manifest-path tests/compare/Cargo.toml -- --seconds $(SECONDS)
+
+# Each call against its hand-written twin in C.
+bench = target/bench/bench
+
+$(bench): tests/bench/bench.c tests/bench/twin.c tests/bench/twin.h $(header) $(archive)
+	mkdir -p $(@D)
+	$(CC) -std=c99 -O3 -Iinclude -o $@ tests/bench/bench.c tests/bench/twin.c $(archive)
+
+bench: $(bench)
+	$(bench)
+
 test:
 	.ci/run
 
 clean:
 	rm -rf target
 
-.PHONY: all install example test clean
+.PHONY: all install example compare bench test clean

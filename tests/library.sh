@@ -1,5 +1,6 @@
 #!/usr/bin/env bash
-# What the gate runs behind the proofs: builds the archive and sees that the header, the example and an installed copy fit it. Each check
+# What the gate runs behind the proofs: builds the archive, sees that the header, the example and an installed copy fit it, and compares it
+# with the second program. Each check
 # is one line, 'ok - ..' or 'not ok - ..'; what a failed one said goes to standard error. The last line is the tally 'N passed, M failed'.
 set -u -o pipefail
 export LC_ALL=C
@@ -107,6 +108,20 @@ rest_is_defined() {
     [ ! -s "$work/undefined" ]
 }
 
+rust() { # COMMAND FOLDER ARGUMENT..
+    local command=$1 folder=$2
+    shift 2
+    CARGO_TARGET_DIR="$PWD/target/cargo" cargo "$command" --offline -q --manifest-path "$folder/Cargo.toml" "$@"
+}
+
+# What the comparison counted is shown below its line.
+programs_agree() {
+    rust run tests/compare --release >"$work/compared"
+    local status=$?
+    [ "$status" -eq 0 ] || cat "$work/compared"
+    return "$status"
+}
+
 check 'the archive is proved and built' archive_is_built
 check 'the header stands alone in C99' header_stands_alone "${CC:-cc}" c99 c
 for standard in c++11 c++14 c++17 c++20; do
@@ -121,5 +136,8 @@ check 'an empty prefix with a blank in its name is filled by make install' prefi
 check 'a staged install keeps its prefix' stage_is_filled
 check 'a C program runs with the flags of pkg-config' program_runs "${CC:-cc}" c99 c
 check 'a C++ program runs with the flags of pkg-config' program_runs "${CXX:-c++}" c++11 cc
+check 'the second program passes its own tests' rust test reference
+check 'the library and the second program agree' programs_agree
+sed 's/^/    /' "$work/compared"
 echo "$passed passed, $failed failed"
 [ "$failed" -eq 0 ]

@@ -1,0 +1,187 @@
+#!/usr/bin/env python3
+"""Slips in the model and faults of the library, one at a time, each of which the comparison has to report.
+
+mutants.py            tries all of them
+mutants.py NUMBER..   tries these
+
+The model, the comparison and what they need are copied below target/mutants. A slip is an exact text of one file of the model with another
+text in its place; it must stand there once. A fault is C code that a function in front of an exported call runs behind it. Each
+is reported where the comparison exits with 1 and names a deviation; without any of them it must exit with 0. Each is one line, 'ok - ..'
+or 'not ok - ..'. Exits 0 only where all are ok. Needs cargo, cc, ar and objcopy.
+"""
+import pathlib
+import re
+import shutil
+import subprocess
+import sys
+
+ROOT = pathlib.Path(__file__).resolve().parent.parent.parent
+COPY = ROOT / 'target' / 'mutants'
+ARCHIVE = 'target/staticlib/libscaltrovina.a'
+COPIED = ['reference/Cargo.toml', 'reference/src', 'tests/compare/Cargo.toml', 'tests/compare/build.rs', 'tests/compare/src',
+          'crates/choose/stdin', 'crates/decode/stdin', 'crates/keep/stdin', ARCHIVE]
+
+# What is wrong, the file of the model, what stands there, what takes its place.
+SLIPS = [
+    ('a ninth child is taken', 'line.rs',
+     'refuse_if(children.len() >= 8, 12)',
+     'refuse_if(children.len() >= 9, 12)'),
+    ('the SPI 255 is in range', 'line.rs',
+     '(256..=4_294_967_295).contains(&spi)',
+     '(255..=4_294_967_295).contains(&spi)'),
+    ('NAS of 2,048 octets is too long', 'packet.rs',
+     '(1..=2048).contains(&nas.len())',
+     '(1..2048).contains(&nas.len())'),
+    ('two timer units are exchanged', 'hold.rs',
+     '[600, 3600, 36_000, 2, 30, 60, 1_152_000]',
+     '[600, 3600, 36_000, 2, 60, 30, 1_152_000]'),
+    ('an address is still held at the moment of the end', 'hold.rs',
+     '|until| time < until',
+     '|until| time <= until'),
+    ('an ended hold is kept', 'line.rs',
+     '.filter(|hold| hold.is_in_force_at(time))',
+     '.filter(|_| true)'),
+    ('no reply is taken for no PLMN', 'line.rs',
+     '(replied == 1).then_some(networks.as_slice())',
+     'Some(networks.as_slice())'),
+    ('a registered home PLMN does not count as none', 'selection.rs',
+     'self.registered.filter(|plmn| *plmn != home)',
+     'self.registered.filter(|_| home.mcc < 1000)'),
+    ('a tie goes to the later plmn record', 'config.rs',
+     'candidates.min_by_key(',
+     'candidates.rev().min_by_key('),
+    ('the home PLMN is barred at home', 'selection.rs',
+     'None => ask_operator(config.home),',
+     'None if config.bars(config.home) => stop(3),\n        None => ask_operator(config.home),'),
+    ('the chosen address counts as passed over', 'selection.rs',
+     'Accepted { passed, address:',
+     'Accepted { passed: passed + 1, address:'),
+    ('Success is taken with any identifier', 'line.rs',
+     ' if identifier == *last => {',
+     ' if identifier <= 255.max(*last) => {'),
+    ('the first reply needs no AN-parameters', 'line.rs',
+     'refuse_if(first_is_owed && parameters.is_empty(), 8)?;',
+     'refuse_if(first_is_owed && nas.is_empty(), 8)?;'),
+    ('unauthenticated congestion is believed', 'line.rs',
+     'refuse_if(authenticated == 0, 10)?;',
+     ''),
+    ('an early time is refused only behind its range', 'table.rs',
+     'refuse_if(time < line.time, 7)?;\n        refuse_if(time > 4_294_967_295, 8)?;\n        let mut later = line.at(time);\n'
+     '        let accepted = later.happen(event)?;',
+     'refuse_if(time > 4_294_967_295, 8)?;\n        let mut later = line.at(time);\n'
+     '        let accepted = later.happen(event)?;\n        refuse_if(time < line.time, 7)?;'),
+    ('an IKE delete leaves the line sure', 'line.rs',
+     '(Event::IkeDelete, Phase::Live(..)) => self.enter(Phase::Idle, Action::Release)',
+     '(Event::IkeDelete, Phase::Live(address, _)) => self.enter(Phase::Sure(*address), Action::Release)'),
+]
+
+# What is wrong, the call, and what runs behind it; `refusal` is what it returned.
+FAULTS = [
+    ('the listing goes on behind its buffer', 'scal_list', 'if (!refusal) listing[listing_length] ^= 1;'),
+    ('a refused begin changes the table', 'scal_begin', 'if (refusal == 10) table[4] ^= 1;'),
+    ('a reply leaves an octet behind the response', 'scal_reply', 'if (!refusal) reply[reply_length - 1] = 1;'),
+    ('start changes the lent text', 'scal_start', 'if (text_length > 300) ((uint8_t *)text)[0] ^= 1;'),
+    ('the final answer has a thirteenth number', 'scal_final', 'if (!refusal) (&answer->action)[12] ^= 1;'),
+    ('open changes the record of another pair', 'scal_open', 'if (!refusal && table[243]) table[4] |= 1;'),
+    ('close takes some tables that are not sound', 'scal_close', 'if (refusal == 1 && table_length == 7776) refusal = 5;'),
+]
+
+
+def copy():
+    """Copies without the times of the files, by which cargo would take a copy for one that is built already."""
+    for name in COPIED:
+        source, target = ROOT / name, COPY / name
+        target.parent.mkdir(parents=True, exist_ok=True)
+        if source.is_dir():
+            shutil.rmtree(target, ignore_errors=True)
+            shutil.copytree(source, target, copy_function=shutil.copyfile)
+        else:
+            shutil.copyfile(source, target)
+
+
+def run(*command, **options):
+    return subprocess.run(command, capture_output=True, text=True, **options)
+
+
+def fault():
+    """None where the comparison of the copy reports a deviation, else what it does; '' where it reports nothing."""
+    target = COPY / 'target' / 'compare'
+    built = run('cargo', 'build', '--release', '--offline', '--target-dir', target, cwd=COPY / 'tests' / 'compare')
+    if built.returncode:
+        return 'it cannot be built: ' + built.stderr
+    compared = run(target / 'release' / 'compare')
+    if compared.returncode == 1 and '\ndeviation' in compared.stdout:
+        return None
+    return '' if compared.returncode == 0 else f'status {compared.returncode}: {compared.stdout}{compared.stderr}'
+
+
+def slipped(name, old, new):
+    """Why a slip is not reported, or None where it is."""
+    path = COPY / 'reference' / 'src' / name
+    whole = path.read_text()
+    if whole.count(old) != 1:
+        return f'this text stands {whole.count(old)} times in {name}: {old}'
+    path.write_text(whole.replace(old, new))
+    found = fault()
+    path.write_text(whole)
+    return found
+
+
+def prototypes():
+    """The exported calls with their parameters."""
+    header = (ROOT / 'include' / 'scaltrovina.h').read_text()
+    return [(name, ' '.join(parameters.split())) for name, parameters in re.findall(r'^uint64_t (scal_\w+)\(([^;]*)\);', header, re.M)]
+
+
+def front(call, code):
+    """Functions in front of all exported calls, of which one does something more."""
+    lines = ['#include <scaltrovina.h>']
+    for name, parameters in prototypes():
+        arguments = [] if parameters == 'void' else [each.split()[-1].lstrip('*') for each in parameters.split(',')]
+        lines.append(f'uint64_t real_{name}({parameters});')
+        lines.append(f'uint64_t {name}({parameters})\n{{')
+        lines.append(f'    uint64_t refusal = real_{name}({", ".join(arguments)});')
+        lines.append(f'    {code if name == call else ""}\n    return refusal;\n}}')
+    return '\n'.join(lines) + '\n'
+
+
+def faulty(call, code):
+    """Why a fault of the library is not reported, or None where it is."""
+    folder, archive = COPY / 'target' / 'front', COPY / ARCHIVE
+    shutil.rmtree(folder, ignore_errors=True)
+    folder.mkdir(parents=True)
+    (folder / 'front.c').write_text(front(call, code))
+    renamed = [each for name, _ in prototypes() for each in ('--redefine-sym', f'{name}=real_{name}')]
+    for command in (['objcopy', *renamed, ROOT / ARCHIVE, 'real.a'], ['ar', 'x', 'real.a'],
+                    ['cc', '-fPIC', '-I', ROOT / 'include', '-c', 'front.c']):
+        done = run(*command, cwd=folder)
+        if done.returncode:
+            return f'{command[0]}: {done.stderr}'
+    archive.unlink()
+    done = run('ar', 'rcs', archive, *sorted(folder.glob('*.o')))
+    found = done.stderr or fault()
+    shutil.copyfile(ROOT / ARCHIVE, archive)
+    return found
+
+
+def told(number, what, found):
+    """One line; whether it is ok."""
+    why = '' if found is None else ': ' + (found or 'not reported')
+    print(f'{"not ok" if why else "ok"} - {number} {what}{why}', flush=True)
+    return not why
+
+
+def main(arguments):
+    copy()
+    found = fault()
+    if found != '':
+        return told('-', 'the copy as it is', 'a deviation' if found is None else found)
+    trials = [(what, slipped, rest) for what, *rest in SLIPS] + [(what, faulty, rest) for what, *rest in FAULTS]
+    numbers = [int(each) for each in arguments] or range(len(trials))
+    passed = [told(number, trials[number][0], trials[number][1](*trials[number][2])) for number in numbers]
+    print(f'{sum(passed)} passed, {len(passed) - sum(passed)} failed')
+    return 0 if all(passed) else 1
+
+
+if __name__ == '__main__':
+    sys.exit(main(sys.argv[1:]))
