@@ -1,7 +1,7 @@
 #!/usr/bin/env bash
 # What the gate runs behind the proofs: builds the archive, sees that the header, the example and an installed copy fit it, and compares it
-# with the second program. Each check
-# is one line, 'ok - ..' or 'not ok - ..'; what a failed one said goes to standard error. The last line is the tally 'N passed, M failed'.
+# with the second program. Each check is one line, 'ok - ..' or 'not ok - ..'; what a failed one said goes to standard error. The last line is
+# the tally 'N passed, M failed'.
 set -u -o pipefail
 export LC_ALL=C
 cd "$(dirname "$0")/.." || exit 2
@@ -107,6 +107,9 @@ rest_is_defined() {
     cat "$work/undefined"
     [ ! -s "$work/undefined" ]
 }
+
+# Rust's installer puts cargo into a folder that a plain PATH may not have.
+PATH=$PATH:${CARGO_HOME:-${HOME:-}/.cargo}/bin
 
 rust() { # COMMAND FOLDER ARGUMENT..
     local command=$1 folder=$2

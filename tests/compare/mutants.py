@@ -175,7 +175,8 @@ def main(arguments):
     copy()
     found = fault()
     if found != '':
-        return told('-', 'the copy as it is', 'a deviation' if found is None else found)
+        told('-', 'the copy without a slip', 'a deviation' if found is None else found)
+        return 1
     trials = [(what, slipped, rest) for what, *rest in SLIPS] + [(what, faulty, rest) for what, *rest in FAULTS]
     numbers = [int(each) for each in arguments] or range(len(trials))
     passed = [told(number, trials[number][0], trials[number][1](*trials[number][2])) for number in numbers]

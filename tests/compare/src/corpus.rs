@@ -14,17 +14,21 @@ const DECODE: &[u8] = include_bytes!("../../../crates/decode/stdin");
 const PAIR: Pair = (0, 0);
 const FOUR: Address = Address { version: 4, number: 0xc000_0207 };
 
-/// Makes every request; how many there are. Lines that are none are there to be turned away by the programs.
+/// Makes every request; how many there are. Some lines are no requests, since the programs have to turn such lines away.
 pub fn all(run: &mut Run) -> Result<u64, String> {
     let ready = Ready::new(run)?;
-    let mut made = 0;
+    let (mut made, mut lines) = (0, 0);
     for fields in requests(CHOOSE).chain(requests(DECODE)) {
+        lines += 1;
         if let Some(told) = ready.request(&fields, run) {
             told?;
             made += 1;
         }
     }
-    Ok(made)
+    match 10 * made > 9 * lines {
+        true => Ok(made),
+        false => Err(format!("only {made} of {lines} lines were taken for requests")),
+    }
 }
 
 /// Histories that the requests start from.
@@ -59,7 +63,8 @@ impl Ready {
                 Some(made(&holding(held)?, vec![start(&spelt(text), place, (mcc, mnc), number(version)?)?], run))
             }
             [b"country", text, mcc, registered_mcc, mnc, version, held, replied, networks] => {
-                let start = start(b"home\t001\t01\n", mcc, (registered_mcc, mnc), number(version)?)?;
+                let home = if number(mcc) == Some(1) { b"home\t002\t01\n" } else { b"home\t001\t01\n" };
+                let start = start(home, mcc, (registered_mcc, mnc), number(version)?)?;
                 let (replied, networks) = (number(replied)?, octets(networks)?);
                 Some(made(&holding(held)?, vec![start, Event::Country { replied, networks, text: spelt(text), room: 64 }], run))
             }

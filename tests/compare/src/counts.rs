@@ -65,7 +65,7 @@ const ANSWERED: [(&str, u64, u64, u64); 29] = [
     ("ike_delete", 12, 0, 0),
 ];
 
-pub const STAGES: [&str; 11] =
+const STAGES: [&str; 11] =
     ["idle", "country", "name", "chosen", "init", "auth", "eap, first owed", "eap, owed", "eap, none owed", "sure", "live"];
 
 #[derive(Default)]
@@ -146,7 +146,7 @@ impl Counts {
     }
 }
 
-pub fn stage(phase: &Phase) -> &'static str {
+fn stage(phase: &Phase) -> &'static str {
     STAGES[match phase {
         Phase::Idle => 0,
         Phase::Country(_) => 1,

@@ -76,11 +76,17 @@ pub fn indented(text: &str) -> String {
     text.lines().map(|line| format!("      {line}\n")).collect()
 }
 
-/// Makes a call without a table on both sides.
+/// Makes a call without a table on both sides. A response that was written is read back with the same fields.
 pub fn packet(call: PacketCall, run: &mut Run) -> Result<PacketAnswer, String> {
     let noise = Random::of(run.seed, run.counts.calls);
     let answer = packet_call(&call, noise.clone()).map_err(|_| packet_told(call.clone(), noise))?;
     run.counts.returned(call.name(), answer.refusal);
+    if let (PacketCall::WriteResponse { .. }, 0) = (&call, answer.refusal) {
+        let written = answer.buffer[..(answer.fields[4] + answer.fields[5]) as usize].to_vec();
+        if packet(PacketCall::ReadResponse { packet: written }, run)?.fields != answer.fields {
+            return Err(format!("deviation: a response is not read as it was written:\n  {}\n", call.shown()));
+        }
+    }
     Ok(answer)
 }
 

@@ -1,7 +1,7 @@
 //! The tables that the stored requests of the program `keep` (docs/TEXTS.md) build and damage, lent to the exported calls.
 
-use crate::damage::{judged, some_calls, Base};
 use crate::history::Run;
+use crate::judge::{judged, Base};
 use crate::layout::{self, RECORD, TABLE};
 use crate::random::Random;
 use crate::requests::{number, octets, requests};
@@ -17,7 +17,7 @@ pub fn all(run: &mut Run) -> Result<u64, String> {
     let mut judged_tables = 0;
     for fields in requests(KEEP) {
         for table in tables(&fields, &kept).unwrap_or_default() {
-            judged(&base, &table, some_calls(&base, 1, random), run)?;
+            judged(&base, &table, 1, random, run)?;
             judged_tables += 1;
         }
         if let Some(changed) = changed(&fields, &kept) {

@@ -19,6 +19,7 @@ mod flaws;
 mod guard;
 mod histories;
 mod history;
+mod judge;
 mod kept;
 mod layout;
 mod lent;
@@ -68,9 +69,9 @@ type Repeated = (&'static str, u64, fn(u64, &mut Run) -> Told);
 
 const REPEATED: [Repeated; 4] = [
     ("histories", 50, histories::one),
-    ("calls without a table, by the hundred", 5, histories::packets),
+    ("hundreds of calls without a table", 5, histories::packets),
     ("pairs of histories", 25, pairs::one),
-    ("damaged tables, by the hundred", 20, damage::one),
+    ("tables damaged two hundred times", 20, damage::one),
 ];
 
 fn main() -> ExitCode {

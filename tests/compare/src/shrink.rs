@@ -1,6 +1,6 @@
 //! Makes calls that lead to a deviation fewer and smaller, as long as they still lead to one.
 
-use crate::shape::Shaped;
+use crate::shape::{Shape, Shaped};
 use std::time::{Duration, Instant};
 
 const LONGEST: Duration = Duration::from_secs(10);
@@ -55,23 +55,19 @@ fn lowered<T: Shaped>(mut calls: Vec<T>, deviates: &impl Fn(&[T]) -> bool, end: 
 fn simpler<T: Shaped>(call: &T) -> Vec<T> {
     let mut whole = call.clone();
     let shape = whole.shape();
-    let (numbers, slices): (Vec<u64>, Vec<Vec<u8>>) =
-        (shape.numbers.iter().map(|number| **number).collect(), shape.slices.iter().map(|octets| octets.to_vec()).collect());
-    let room = shape.room.map(|room| *room);
     let mut calls = Vec::new();
-    for (place, octets) in slices.iter().enumerate() {
-        calls.extend(shorter(octets).into_iter().map(|octets| changed(call, |shape| *shape.slices[place] = octets)));
+    for (place, octets) in shape.slices.iter().enumerate() {
+        calls.extend(shorter(octets).into_iter().map(|less| changed(call, |shape| *shape.slices[place] = less)));
     }
-    for (place, &number) in numbers.iter().enumerate() {
-        calls.extend(lower(number).into_iter().map(|number| changed(call, |shape| *shape.numbers[place] = number)));
+    for (place, number) in shape.numbers.iter().enumerate() {
+        calls.extend(lower(**number).into_iter().map(|less| changed(call, |shape| *shape.numbers[place] = less)));
     }
-    for less in room.map(|room| lower(room as u64)).unwrap_or_default() {
-        calls.push(changed(call, |shape| **shape.room.as_mut().expect("the call has a buffer") = less as usize));
-    }
+    let rooms = shape.room.map_or(vec![], |room| lower(*room as u64));
+    calls.extend(rooms.into_iter().map(|less| changed(call, |shape| shape.room.iter_mut().for_each(|room| **room = less as usize))));
     calls
 }
 
-fn changed<T: Shaped>(call: &T, change: impl FnOnce(&mut crate::shape::Shape)) -> T {
+fn changed<T: Shaped>(call: &T, change: impl FnOnce(&mut Shape)) -> T {
     let mut call = call.clone();
     change(&mut call.shape());
     call
@@ -84,21 +80,20 @@ fn lower(number: u64) -> Vec<u64> {
     lower
 }
 
-/// The octets without a run of them: long runs first, then the lines of a text, then runs as long as the entries of lists.
+/// The octets without a run of them: long runs first, then the lines of a text, then runs as long as the entries of lists. Of many octets
+/// only long runs are left out, so that the candidates stay few.
 fn shorter(octets: &[u8]) -> Vec<Vec<u8>> {
     let without = |at: usize, run: usize| [&octets[..at], &octets[(at + run).min(octets.len())..]].concat();
     let mut shorter = Vec::new();
     let mut run = octets.len();
-    while run > 0 {
+    while run > octets.len() / 512 {
         shorter.extend((0..octets.len()).step_by(run).map(|at| without(at, run)));
         run /= 2;
     }
-    let mut at = 0;
-    for line in octets.split_inclusive(|&octet| octet == b'\n') {
-        shorter.push(without(at, line.len()));
-        at += line.len();
-    }
-    if octets.len() <= 300 {
+    if octets.len() <= 1024 {
+        let ends = octets.iter().enumerate().filter(|(_, octet)| **octet == b'\n').map(|(place, _)| place + 1);
+        let starts = std::iter::once(0).chain(ends.clone());
+        shorter.extend(starts.zip(ends).map(|(start, end)| without(start, end - start)));
         shorter.extend([17, 4].iter().flat_map(|run| (0..octets.len()).map(|at| without(at, *run))));
     }
     shorter
