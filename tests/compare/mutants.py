@@ -19,7 +19,7 @@ ROOT = pathlib.Path(__file__).resolve().parent.parent.parent
 COPY = ROOT / 'target' / 'mutants'
 ARCHIVE = 'target/staticlib/libscaltrovina.a'
 COPIED = ['reference/Cargo.toml', 'reference/src', 'tests/compare/Cargo.toml', 'tests/compare/build.rs', 'tests/compare/src',
-          'crates/choose/stdin', 'crates/decode/stdin', 'crates/keep/stdin', ARCHIVE]
+          'tests/compare/corpus', ARCHIVE]
 
 # What is wrong, the file of the model, what stands there, what takes its place.
 SLIPS = [

@@ -80,13 +80,6 @@ module _ (l : List ℕ) where
       let nas = nas-facts 14 (and-right (isMessage 1 2 l) (isNas l 14) (r .0)) in
       omega arith
 
-  pub response-within : (i p m at n : ℕ) → NasResponse i p m at n ≡ readPacket l → at + n ≤ length l
-  unfolding isNasResponse
-  response-within i p m at n e =
-      let r = response-read i p m at n e in
-      let nas = nas-facts (nasPlace l) (and-right (isMessage 2 2 l && isParameters l 14) (isNas l (nasPlace l)) (r .0)) in
-      omega arith
-
 -- the first 14 octets of an EAP-5G packet of a code with a message
 pub record Header (l : List ℕ) (c m : ℕ) : Type 0 where
   pub enough : 14 ≤ length l

@@ -99,15 +99,6 @@ nasOf l (NasResponse i p m at n) = part l at n
 nasOf l (Stop i) = []
 nasOf l Other = []
 
--- how long the NAS of a packet that was read is
-unfoldable pub nasLength : Packet → ℕ
-nasLength (Start i) = 0
-nasLength (NasRequest i at n) = n
-nasLength (Success i) = 0
-nasLength (NasResponse i p m at n) = n
-nasLength (Stop i) = 0
-nasLength Other = 0
-
 -- what the network sends and the handset reads: Start, NAS requests and Success
 unfoldable pub isRequest : Packet → Bool
 isRequest (Start i) = true

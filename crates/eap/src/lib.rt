@@ -7,7 +7,7 @@ ghost use mathlib.Core.Path.{_≡_};
 ghost use Prim.Native.Nat.{_≤_};
 ghost use lib.ListN.{length};
 ghost use Rattle.octets.specs.Digits.{field};
-ghost use Rattle.eap.specs.Packet.{fits, isExpanded, isNas, isParameters, readPacket, nasOf, nasLength};
+ghost use Rattle.eap.specs.Packet.{fits, isExpanded, isNas, isParameters, readPacket};
 ghost use Rattle.eap.specs.Branch.{blockOf, requestOf, responseOf};
 
 // The most octets that NAS has.
@@ -198,28 +198,4 @@ pub fn read(packet: &[u8]) -> Packet
         }
     }
     Packet::Other
-}
-
-// The NAS of a packet, as a part of the lent slice, empty where it has none.
-pub fn nas_of(packet: &[u8]) -> &[u8]
-    ensures { λ r. ⌜ (now r ≡ nasOf (now (packet .entry)) (readPacket (now (packet .entry)))) × (length (now r) ≡ nasLength (readPacket (now (packet .entry)))) ⌝ }
-{
-    match read(packet) {
-        Packet::NasRequest {
-            identifier: _,
-            nas: at,
-            nas_length: n,
-        } => part(packet, at, n),
-        Packet::NasResponse {
-            identifier: _,
-            parameters: _,
-            parameters_length: _,
-            nas,
-            nas_length,
-        } => part(packet, nas, nas_length),
-        Packet::Start { identifier: _ } => &packet[..0],
-        Packet::Success { identifier: _ } => &packet[..0],
-        Packet::Stop { identifier: _ } => &packet[..0],
-        Packet::Other => &packet[..0],
-    }
 }

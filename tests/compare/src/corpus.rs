@@ -1,34 +1,30 @@
-//! The stored requests of the programs `choose` and `decode` (docs/TEXTS.md), made through the exported calls.
+//! The stored requests about selection and leaves (corpus/README.md), made through the exported calls.
 
 use crate::history::{packet, History, Run, Told};
 use crate::layout::{self, Address, Facts, Hold, Line, Pair, Phase, Turn};
 use crate::lent;
 use crate::phases::reached;
 use crate::reach;
-use crate::requests::{number, octets, requests};
+use crate::requests::{no_request, number, octets, requests};
 use reference::{Call, Event, PacketCall};
 
-const CHOOSE: &[u8] = include_bytes!("../../../crates/choose/stdin");
-const DECODE: &[u8] = include_bytes!("../../../crates/decode/stdin");
+const FILES: [(&str, &[u8]); 2] =
+    [("selection.txt", include_bytes!("../corpus/selection.txt")), ("leaves.txt", include_bytes!("../corpus/leaves.txt"))];
 
 const PAIR: Pair = (0, 0);
 const FOUR: Address = Address { version: 4, number: 0xc000_0207 };
 
-/// Makes every request; how many there are. Some lines are no requests, since the programs have to turn such lines away.
+/// Makes every request; how many there are.
 pub fn all(run: &mut Run) -> Result<u64, String> {
     let ready = Ready::new(run)?;
-    let (mut made, mut lines) = (0, 0);
-    for fields in requests(CHOOSE).chain(requests(DECODE)) {
-        lines += 1;
-        if let Some(told) = ready.request(&fields, run) {
-            told?;
+    let mut made = 0;
+    for (name, file) in FILES {
+        for (line, fields) in (1..).zip(requests(file)) {
+            ready.request(&fields, run).ok_or_else(|| no_request(name, line))??;
             made += 1;
         }
     }
-    match 10 * made > 9 * lines {
-        true => Ok(made),
-        false => Err(format!("only {made} of {lines} lines were taken for requests")),
-    }
+    Ok(made)
 }
 
 /// Histories that the requests start from.

@@ -1,12 +1,14 @@
-//! The tables that the stored requests of the program `keep` (docs/TEXTS.md) build and damage, lent to the exported calls.
+//! The tables that stored requests (corpus/README.md) build and damage, lent to the exported calls.
 
 use crate::history::Run;
 use crate::judge::{judged, Base};
 use crate::layout::{self, RECORD, TABLE};
 use crate::random::Random;
-use crate::requests::{number, octets, requests};
+use crate::requests::{no_request, number, octets, requests};
 
-const KEEP: &[u8] = include_bytes!("../../../crates/keep/stdin");
+const TABLES: &[u8] = include_bytes!("../corpus/tables.txt");
+
+/// More octets than a table has, so that longer tables are tried too.
 const KEPT: usize = 8192;
 
 /// Judges every table; how many there are.
@@ -15,8 +17,8 @@ pub fn all(run: &mut Run) -> Result<u64, String> {
     let mut kept = vec![0; KEPT];
     let mut base = Base::of(&kept[..TABLE]);
     let mut judged_tables = 0;
-    for fields in requests(KEEP) {
-        for table in tables(&fields, &kept).unwrap_or_default() {
+    for (line, fields) in (1..).zip(requests(TABLES)) {
+        for table in tables(&fields, &kept).ok_or_else(|| no_request("tables.txt", line))? {
             judged(&base, &table, 1, random, run)?;
             judged_tables += 1;
         }

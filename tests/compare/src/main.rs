@@ -59,9 +59,9 @@ type Whole = (&'static str, fn(&mut Run) -> Result<u64, String>);
 const WHOLE: [Whole; 5] = [
     ("every event on lines in every phase", phases::all),
     ("lengths and numbers around their bounds", bounds::all),
-    ("stored requests of choose and decode", corpus::all),
+    ("stored requests", corpus::all),
     ("octets and lengths of tables", damage::systematic),
-    ("stored tables of keep", kept::all),
+    ("stored tables", kept::all),
 ];
 
 /// A part that is made again and again with new random numbers, and its share of the budget in hundredths.

@@ -1,7 +1,14 @@
-//! Requests as the programs of the repository take them (docs/TEXTS.md): one a line, fields parted by one tab.
+//! Stored requests as corpus/README.md spells them: one a line, fields parted by one tab.
 
+/// The fields of each line; every line ends with a newline.
 pub fn requests(file: &[u8]) -> impl Iterator<Item = Vec<&[u8]>> {
-    file.split(|&octet| octet == b'\n').map(|line| line.split(|&octet| octet == b'\t').collect())
+    let lines = file.strip_suffix(b"\n").unwrap_or(file).split(|&octet| octet == b'\n');
+    lines.map(|line| line.split(|&octet| octet == b'\t').collect())
+}
+
+/// What is said of a line that is no request, by its number from 1 on.
+pub fn no_request(file: &str, line: usize) -> String {
+    format!("corpus/{file}, line {line}: no request")
 }
 
 pub fn number(digits: &[u8]) -> Option<u64> {
