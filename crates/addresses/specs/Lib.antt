@@ -1,3 +1,4 @@
 -- Addresses in octets.
 pub mod Addresses
+pub mod Keys
 pub mod Laws

@@ -8,6 +8,7 @@ ghost use Prim.Native.Nat.{_+_, _≤_};
 ghost use lib.ListN.{length};
 ghost use Rattle.octets.specs.Part.{Wrote};
 ghost use Rattle.addresses.specs.Addresses.{addressFrom, addressLength, addressOctets, isAddress};
+ghost use Rattle.addresses.specs.Keys.{keyAt};
 ghost use Rattle.addresses.specs.Laws.{Laws};
 
 // The octets of an address.
@@ -30,13 +31,17 @@ pub fn is_address(list: &[u8], at: usize) -> bool
     ensures { λ r. ⌜ r ≡ isAddress (now (list .entry)) at ⌝ }
 {
     let version = get(list, at, 1);
-    if version == 6 {
-        return true;
-    }
-    if version != 4 {
-        return false;
-    }
-    zeros_at(list, at + 5, 12)
+    let rest = zeros_at(list, at + 5, 12);
+    (version == 6) | ((version == 4) & rest)
+}
+
+// The key of the address at a place.
+pub fn key_at(list: &[u8], at: usize) -> u32
+    requires { ⌜ at + addressLength ≤ length (now list) ⌝ }
+    ensures { λ r. ⌜ r ≡ keyAt (now (list .entry)) at ⌝ }
+{
+    let both = get(list, at + 1, 8) ^ get(list, at + 9, 8);
+    ((both / 4294967296) as u32) ^ ((both % 4294967296) as u32)
 }
 
 // Stores an address at a place.

@@ -5,7 +5,9 @@ use mathlib.Core.List.{List, []}
 use mathlib.Core.Path.{_≡_, refl, sym, ap, _∙_}
 use native.Mathlib.Omega.{arith}
 use Rattle.octets.specs.Part.{part, zeros}
-use Rattle.record.specs.Line.{lineOf}
+use Rattle.record.specs.Line.{Line, lineOf}
+use Rattle.record.specs.Octets.{lineFrom}
+use Rattle.table.specs.Table.{slot}
 use Rattle.rules.specs.Answer.{eventRoom, lentIn, numberCount, numbersOf, partNamed, PartWithin, refused, roomOf}
 use Rattle.rules.specs.Call.{Event, timed}
 use Rattle.rules.specs.Refusals.{isShort, leastEventRoom, leastRoom}
@@ -53,12 +55,12 @@ module _ (tenant line time : ℕ) (e : Event) (short : Bool) (l : List ℕ) (r :
   unfolding returned refused
   turned-away enters h n numbers buffer number none cleared = rw (number, none, cleared) (sym (enters .refused-is h e room-is))
 
-  -- what the step answers and leaves
-  pub taken : Passes r tenant line time short l → (s : Stepped) (part buffer : List ℕ) → effectIn s part buffer ≡ effect e time (lineOf (r .line))
+  -- what the step on the line that was read answers and leaves
+  pub taken : Passes r tenant line time short l → {x : Line} → x ≡ lineFrom (slot l (r .at)) → (s : Stepped) (part buffer : List ℕ) → effectIn s part buffer ≡ effect e time x
       → (n : ℕ) (numbers table : List ℕ) → n ≡ s .refusal → numbers ≡ numbersOf (s .action) → table ≡ storedBy (s .refusal) (r .pair) (lineOf (s .line)) l
       → returned n numbers part buffer table ≡ run (timed tenant line time e) l
-  taken passes s part buffer is n numbers table number action stored =
-      rw (number, action, stored) (by-step s part buffer (r .pair) l ∙ ap (λ (f : Effect). resultBy f (r .pair) l) is ∙ sym (passes .result-is e room-is))
+  taken passes read s part buffer is n numbers table number action stored =
+      rw (number, action, stored) (by-step s part buffer (r .pair) l ∙ ap (λ (f : Effect). resultBy f (r .pair) l) (is ∙ ap (effect e time) read) ∙ sym (passes .result-is e room-is))
 
   -- the same where a part is returned: it is the one that the numbers name, within the lent octets
   module _ (text name packet : List ℕ) where
@@ -72,9 +74,9 @@ module _ (tenant line time : ℕ) (e : Event) (short : Bool) (l : List ℕ) (r :
     turned-away-named enters h n numbers buffer number none cleared =
         rw none (turned-away enters h n (zeros numberCount) buffer number refl cleared, omega arith)
 
-    pub taken-named : Passes r tenant line time short l → (s : Stepped) (buffer : List ℕ)
-        → effectIn s (partNamed (numbersOf (s .action)) text name packet) buffer ≡ effect e time (lineOf (r .line)) → PartWithin (numbersOf (s .action)) text name packet
+    pub taken-named : Passes r tenant line time short l → {x : Line} → x ≡ lineFrom (slot l (r .at)) → (s : Stepped) (buffer : List ℕ)
+        → effectIn s (partNamed (numbersOf (s .action)) text name packet) buffer ≡ effect e time x → PartWithin (numbersOf (s .action)) text name packet
         → (n : ℕ) (numbers table : List ℕ) → n ≡ s .refusal → numbers ≡ numbersOf (s .action) → table ≡ storedBy (s .refusal) (r .pair) (lineOf (s .line)) l
         → Named n numbers buffer table
-    taken-named passes s buffer is within n numbers table number action stored =
-        rw action (taken passes s (partNamed (numbersOf (s .action)) text name packet) buffer is n (numbersOf (s .action)) table number refl stored, within)
+    taken-named passes read s buffer is within n numbers table number action stored =
+        rw action (taken passes read s (partNamed (numbersOf (s .action)) text name packet) buffer is n (numbersOf (s .action)) table number refl stored, within)

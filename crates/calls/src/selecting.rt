@@ -6,6 +6,7 @@ use frame::enter;
 use frame::settle;
 use network::NAME_ROOM;
 use rules::StartNumbers;
+use table::read_slot;
 ghost use mathlib.Core.List.{[]};
 ghost use mathlib.Core.Path.{_≡_};
 ghost use lib.ListN.{length};
@@ -45,7 +46,7 @@ pub fn start(
         registered_mnc,
         version,
     };
-    let found = entered.line;
+    let found = read_slot(table, entered.at);
     let stepped = attempt::start(found, time, given, text, name);
     settle(table, entered.pair, entered.at, stepped, answer)
 }
@@ -69,7 +70,7 @@ pub fn country(
     if entered.refusal != 0 {
         return refuse(entered.refusal, name, answer);
     }
-    let found = entered.line;
+    let found = read_slot(table, entered.at);
     let stepped = country_answer(found, time, replied, networks, text, name);
     settle(table, entered.pair, entered.at, stepped, answer)
 }
@@ -90,7 +91,7 @@ pub fn address(
         *answer = [0; 12];
         return entered.refusal;
     }
-    let found = entered.line;
+    let found = read_slot(table, entered.at);
     let stepped = address_answer(found, time, addresses);
     settle(table, entered.pair, entered.at, stepped, answer)
 }

@@ -6,6 +6,7 @@ use ike::event::IkeEvent;
 use ike::event::step_of;
 use response::REPLY_ROOM;
 use session::eap_packet;
+use table::read_slot;
 ghost use mathlib.Core.List.{[]};
 ghost use mathlib.Core.Path.{_≡_};
 ghost use lib.ListN.{length};
@@ -32,7 +33,7 @@ pub fn on_line(
         *answer = [0; 12];
         return entered.refusal;
     }
-    let found = entered.line;
+    let found = read_slot(table, entered.at);
     let stepped = step_of(found, time, event);
     settle(table, entered.pair, entered.at, stepped, answer)
 }
@@ -54,7 +55,7 @@ pub fn eap(
         *answer = [0; 12];
         return entered.refusal;
     }
-    let found = entered.line;
+    let found = read_slot(table, entered.at);
     let stepped = eap_packet(found, time, packet);
     settle(table, entered.pair, entered.at, stepped, answer)
 }
@@ -76,7 +77,7 @@ pub fn reply(
     if entered.refusal != 0 {
         return refuse(entered.refusal, reply, answer);
     }
-    let found = entered.line;
+    let found = read_slot(table, entered.at);
     let stepped = session::reply(found, time, parameters, nas, reply);
     settle(table, entered.pair, entered.at, stepped, answer)
 }

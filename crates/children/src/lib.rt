@@ -1,10 +1,14 @@
 // The child associations of a line in octets.
+use octets::differ::all_differ;
+use octets::differ::pick;
 use octets::number::get;
 use octets::number::put;
 use octets::slice::zeros_at;
 ghost use mathlib.Core.Path.{_≡_};
-ghost use Prim.Native.Nat.{_+_, _≤_};
-ghost use lib.ListN.{drop, length, take};
+ghost use mathlib.Core.Bool.{_&&_};
+ghost use Prim.Native.Nat.{ℕ, _+_, _*_, _≤_, _<_};
+ghost use lib.ListN.{drop, getD, length, take};
+ghost use Rattle.octets.specs.Digits.{field};
 ghost use Rattle.octets.specs.Part.{Wrote};
 ghost use Rattle.octets.specs.Row.{joined, only};
 ghost use Rattle.octets.specs.Search.{allOf};
@@ -80,12 +84,15 @@ pub fn put_children(b: &mut [u8], at: usize, list: [Child; CHILDREN], n: usize)
 }
 
 // Whether at most 8 children stand at a place, and zeros behind them.
-pub fn are_written(b: &[u8], at: usize, n: usize) -> bool
+fn are_written(b: &[u8], at: usize, n: usize) -> bool
     requires { ⌜ at + childrenRoom ≤ length (now b) ⌝ }
     ensures { λ r. ⌜ r ≡ childrenWritten (now (b .entry)) at n ⌝ }
 {
     if CHILDREN < n {
         return false;
+    }
+    if n == 1 {
+        return zeros_at(b, at + LENGTH, CHILDREN_ROOM - LENGTH);
     }
     zeros_at(b, at + LENGTH * n, CHILDREN_ROOM - LENGTH * n)
 }
@@ -107,7 +114,7 @@ pub fn has_spi(list: [Child; CHILDREN], from: usize, n: usize, spi: u64) -> bool
 }
 
 // Whether the first n children have different SPIs.
-pub fn are_different(list: [Child; CHILDREN], n: usize) -> bool
+fn are_different(list: [Child; CHILDREN], n: usize) -> bool
     requires { ⌜ n ≤ mostChildren ⌝ }
     ensures { λ r. ⌜ r ≡ spisDiffer (take n list) ⌝ }
 {
@@ -129,20 +136,62 @@ pub fn child_fits(child: Child) -> bool
     (LEAST_SPI <= child.spi) & (1 <= child.session) & (child.session <= MOST_SESSION)
 }
 
-// Whether the numbers of each of the first n children are in their ranges.
-pub fn all_fit(list: [Child; CHILDREN], n: usize) -> bool
-    requires { ⌜ n ≤ mostChildren ⌝ }
-    ensures { λ r. ⌜ r ≡ allOf childFits (take n list) ⌝ }
+// Whether the numbers of each of the n children at a place are in their ranges.
+fn fit_at(b: &[u8], at: usize, n: usize) -> bool
+    requires { ⌜ (at + childrenRoom ≤ length (now b)) × (n ≤ mostChildren) ⌝ }
+    ensures { λ r. ⌜ r ≡ allOf childFits (childrenFrom (now (b .entry)) at n) ⌝ }
 {
     let mut i = 0;
     while i < n {
-        let each = list[i];
-        if !child_fits(each) {
+        let child = read_child(b, at + LENGTH * i);
+        if !child_fits(child) {
             return false;
         }
         i += 1;
     }
     true
+}
+
+// The SPIs of the first n children at a place; each place behind them has its own number.
+fn spis(b: &[u8], at: usize, n: usize) -> [u32; CHILDREN]
+    requires { ⌜ (at + childrenRoom ≤ length (now b)) × (n ≤ mostChildren) ⌝ }
+    ensures { λ r. ⌜ ((i : ℕ) → i < n → getD r i 0 ≡ field (now (b .entry)) (at + childLength * i) 4) ⌝ }
+{
+    let mut w = [0u32; CHILDREN];
+    let mut i = 0;
+    while i < CHILDREN {
+        w[i] = pick(i < n, get(b, at + LENGTH * i, 4) as u32, i as u32);
+        i += 1;
+    }
+    w
+}
+
+// Whether the first n children at a place have different SPIs.
+fn differ_at(b: &[u8], at: usize, n: usize) -> bool
+    requires { ⌜ (at + childrenRoom ≤ length (now b)) × (n ≤ mostChildren) ⌝ }
+    ensures { λ r. ⌜ r ≡ spisDiffer (childrenFrom (now (b .entry)) at n) ⌝ }
+{
+    if n < 2 {
+        return true;
+    }
+    if all_differ(spis(b, at, n)) {
+        return true;
+    }
+    are_different(read_children(b, at, n), n)
+}
+
+// Whether at most 8 children stand at a place, with numbers in their ranges and different SPIs, and zeros behind them.
+pub fn are_sound(b: &[u8], at: usize, n: usize) -> bool
+    requires { ⌜ at + childrenRoom ≤ length (now b) ⌝ }
+    ensures { λ r. ⌜ r ≡ childrenWritten (now (b .entry)) at n && allOf childFits (childrenFrom (now (b .entry)) at n) && spisDiffer (childrenFrom (now (b .entry)) at n) ⌝ }
+{
+    if !are_written(b, at, n) {
+        return false;
+    }
+    if !fit_at(b, at, n) {
+        return false;
+    }
+    differ_at(b, at, n)
 }
 
 // The children of a line: those below the count.

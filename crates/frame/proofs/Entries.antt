@@ -11,11 +11,11 @@ use lib.ListN.{length}
 use Rattle.octets.specs.Refusal.{refusal}
 use Rattle.octets.specs.Row.{isSome}
 use Rattle.octets.proofs.Refusals.{refusal-ahead, refusal-step}
-use Rattle.record.specs.Line.{Line, lineOf, InArrays}
-use Rattle.record.specs.Octets.{recordLength}
-use Rattle.record.specs.Sound.{lineSound}
+use Rattle.record.specs.Line.{Line}
+use Rattle.record.specs.Octets.{lineFrom, recordLength}
+use Rattle.record.specs.Sound.{isRecord}
 use Rattle.table.specs.Slots.{slotsOf}
-use Rattle.table.specs.Table.{isTable, recordOf}
+use Rattle.table.specs.Table.{isTable, recordOf, slot}
 use Rattle.rules.specs.Answer.{refused}
 use Rattle.rules.specs.Call.{Call, Event, pairOf, tenantOf, timed}
 use Rattle.rules.specs.Refusals.{isAboveLast, isEarly, isFull, isNoPair, isNotOpen, isOpenAlready, isShort, refusals}
@@ -114,26 +114,29 @@ module _ (tenant line time : ℕ) (short : Bool) (l : List ℕ) (r : Entered) wh
       by-closed none-there is =
           turned-away 5 (λ z. omega (arith, z)) is (λ e room. closed-number tenant line time e (viewIn (call e) l) sound pair-is (room ∙ long) (seen none e none-there))
 
-      module _ (x : Line) (there : ownLine tenant (slotsOf l) line ≡ some x) where
-        -- the time is earlier than the line's
-        pub by-time : ltb time (x .time) ≡ true → r .refusal ≡ 7 → Enters r tenant line time short l
-        unfolding viewIn viewOf isNoPair
-        by-time early is =
-            turned-away 7 (λ z. omega (arith, z)) is (λ e room. early-number tenant line time e (viewIn (call e) l) sound pair-is (room ∙ long) x (seen (some x) e there) early)
+      -- the time is earlier than the line's
+      pub by-time : (x : Line) → ownLine tenant (slotsOf l) line ≡ some x → ltb time (x .time) ≡ true → r .refusal ≡ 7 → Enters r tenant line time short l
+      unfolding viewIn viewOf isNoPair
+      by-time x there early is =
+          turned-away 7 (λ z. omega (arith, z)) is (λ e room. early-number tenant line time e (viewIn (call e) l) sound pair-is (room ∙ long) x (seen (some x) e there) early)
 
-        -- none of the tests refuses it
-        pub by-none : ltb time (x .time) ≡ false → r .refusal ≡ 0 → lineOf (r .line) ≡ x → r .pair ≡ pairOf tenant line → r .at ≡ recordOf l (r .pair)
-            → recordLength * r .at + recordLength ≤ length l → InArrays (r .line) → Enters r tenant line time short l
-        unfolding isNoPair ownLine
-        by-none risen is line-is pair at within arrays = record {
-          refused-is = λ h. absurd (h is);
-          passes = λ z. record {
-            result-is = λ e room. rw (line-is, pair) (effect-run tenant line time e l x sound pair-is (room ∙ long) (seen (some x) e there) risen);
-            buffer-fits = long;
-            line-is = there ∙ ap some (sym line-is);
-            at-is = at;
-            within = within;
-            in-arrays = arrays;
-            sound = ap lineSound line-is ∙ found-sound l sound (pairOf tenant line) (pair-low tenant line pair-is) x there;
-          };
-        }
+      -- the line in the record that the call is about
+      abbrev own : Line
+      own = lineFrom (slot l (r .at))
+
+      -- none of the tests refuses it
+      pub by-none : ownLine tenant (slotsOf l) line ≡ some own → ltb time (own .time) ≡ false → r .refusal ≡ 0 → r .pair ≡ pairOf tenant line → r .at ≡ recordOf l (r .pair)
+          → recordLength * r .at + recordLength ≤ length l → isRecord (slot l (r .at)) ≡ true → Enters r tenant line time short l
+      unfolding isNoPair ownLine
+      by-none there risen is pair at within used = record {
+        refused-is = λ h. absurd (h is);
+        passes = λ z. record {
+          result-is = λ e room. rw pair (effect-run tenant line time e l own sound pair-is (room ∙ long) (seen (some own) e there) risen);
+          buffer-fits = long;
+          line-is = there;
+          at-is = at;
+          within = within;
+          used = used;
+          sound = found-sound l sound (pairOf tenant line) (pair-low tenant line pair-is) own there;
+        };
+      }

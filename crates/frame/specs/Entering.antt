@@ -6,11 +6,10 @@ use mathlib.Core.Option.{some}
 use mathlib.Core.Path.{_≡_}
 use lib.ListN.{length}
 use Rattle.octets.specs.Refusal.{Refusal, _when_}
-use Rattle.record.specs.Line.{lineOf, InArrays}
-use Rattle.record.specs.Octets.{recordLength}
-use Rattle.record.specs.Sound.{lineSound}
+use Rattle.record.specs.Octets.{lineFrom, recordLength}
+use Rattle.record.specs.Sound.{isRecord, lineSound}
 use Rattle.table.specs.Slots.{slotsOf}
-use Rattle.table.specs.Table.{isTable, recordOf}
+use Rattle.table.specs.Table.{isTable, recordOf, slot}
 use Rattle.rules.specs.Answer.{refused}
 use Rattle.rules.specs.Call.{Event, timed}
 use Rattle.rules.specs.Refusals.{isAboveLast, isShort}
@@ -24,16 +23,16 @@ use Rattle.frame.specs.declared.Entered.{Entered}
 unfoldable pub firstRefusals : List ℕ → ℕ → ℕ → Bool → List Refusal
 firstRefusals l tenant line short = (1 when not (isTable l)) ∷ (2 when isAboveLast tenant line) ∷ (3 when short) ∷ []
 
--- the tests are passed: the call's result is that of its event on the line in the pair's record
+-- the tests are passed: the pair's record is used, and the call's result is that of its event on the line in it
 pub record Passes (r : Entered) (tenant line time : ℕ) (short : Bool) (l : List ℕ) : Type 0 where
   pub result-is : (e : Event) → isShort (timed tenant line time e) ≡ short
-      → run (timed tenant line time e) l ≡ resultBy (effect e time (lineOf (r .line))) (r .pair) l
+      → run (timed tenant line time e) l ≡ resultBy (effect e time (lineFrom (slot l (r .at)))) (r .pair) l
   pub buffer-fits : short ≡ false
-  pub line-is : ownLine tenant (slotsOf l) line ≡ some (lineOf (r .line))
+  pub line-is : ownLine tenant (slotsOf l) line ≡ some (lineFrom (slot l (r .at)))
   pub at-is : r .at ≡ recordOf l (r .pair)
   pub within : recordLength * r .at + recordLength ≤ length l
-  pub in-arrays : InArrays (r .line)
-  pub sound : lineSound (lineOf (r .line)) ≡ true
+  pub used : isRecord (slot l (r .at)) ≡ true
+  pub sound : lineSound (lineFrom (slot l (r .at))) ≡ true
 
 -- the entry tests of a call at a time whose answer buffer is too short or not: refused, or passed
 pub record Enters (r : Entered) (tenant line time : ℕ) (short : Bool) (l : List ℕ) : Type 0 where

@@ -1,4 +1,4 @@
-// What the calls on the table share: the tests at their entry, the line that a timed call is about, and what it stores and answers.
+// What the calls on the table share: the tests at their entry, the record that a timed call is about, and what it stores and answers.
 pub mod answer;
 
 use crate::answer::numbers;
@@ -16,9 +16,9 @@ use rules::pair_of;
 use step::Stepped;
 use table::RECORDS;
 use table::is_sound;
-use table::read_slot;
 use table::record_of;
 use table::store;
+use table::time_at;
 ghost use mathlib.Core.Path.{_≡_};
 ghost use Prim.Native.Nat.{_+_, _*_, _≤_};
 ghost use lib.ListN.{length};
@@ -31,12 +31,11 @@ ghost use Rattle.rules.specs.View.{fresh};
 ghost use Rattle.step.specs.Laws.{storedBy};
 ghost use Rattle.frame.specs.Entering.{firstRefusals, Enters};
 
-// What the entry tests of a timed call leave: their refusal number, and where that is 0 the pair, the record and the line that the call is about.
+// What the entry tests of a timed call leave: their refusal number, and where that is 0 the pair and the record that the call is about.
 pub struct Entered {
     pub refusal: u64,
     pub pair: u64,
     pub at: usize,
-    pub line: Record,
 }
 
 // A line that was just opened.
@@ -83,11 +82,10 @@ fn refused(number: u64) -> Entered
         refusal: number,
         pair: 0,
         at: 0,
-        line: fresh(),
     }
 }
 
-// The entry tests of a timed call, and the line that it is about.
+// The entry tests of a timed call, and the record that it is about.
 pub fn enter(table: &[u8], tenant: u64, line: u64, time: u64, short: bool) -> Entered
     ensures { λ r. ⌜ Enters r tenant line time short (now (table .entry)) ⌝ }
 {
@@ -100,15 +98,13 @@ pub fn enter(table: &[u8], tenant: u64, line: u64, time: u64, short: bool) -> En
     if RECORDS <= at {
         return refused(5);
     }
-    let found = read_slot(table, at);
-    if time < found.time {
+    if time < time_at(table, at) {
         return refused(7);
     }
     Entered {
         refusal: 0,
         pair,
         at,
-        line: found,
     }
 }
 

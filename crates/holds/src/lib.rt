@@ -6,19 +6,25 @@ use address::Hold;
 use address::is_held;
 use addresses::ADDRESS;
 use addresses::is_address;
+use addresses::key_at;
 use addresses::put_address;
 use addresses::read_address;
+use octets::differ::pick;
 use octets::number::get;
 use octets::number::put;
 use octets::slice::zeros_at;
+ghost use mathlib.Core.Bool.{_&&_};
 ghost use mathlib.Core.Path.{_≡_};
 ghost use Prim.Native.Nat.{_+_, _*_, _≤_};
 ghost use lib.ListN.{length, take};
+ghost use Rattle.octets.specs.Digits.{field};
 ghost use Rattle.octets.specs.Part.{Wrote};
 ghost use Rattle.octets.specs.Row.{joined, only};
 ghost use Rattle.octets.specs.Search.{allOf};
 ghost use Rattle.address.specs.Address.{heldAddresses, mostHolds};
+ghost use Rattle.addresses.specs.Addresses.{addressLength};
 ghost use Rattle.holds.specs.Holds.{different, endAfter, endNumber, endOf, endsAfter, holdFrom, holdLength, holdOctets, holdsFrom, holdsRoom, holdsWritten};
+ghost use Rattle.holds.specs.Keys.{KeysOf};
 ghost use Rattle.holds.specs.Laws.{Laws};
 
 // The octets of a hold.
@@ -99,11 +105,24 @@ pub fn put_holds(b: &mut [u8], at: usize, list: [Hold; HOLDS], n: usize)
     }
 }
 
-// Whether at most 8 holds stand at a place, each with an address, and zeros behind them.
-pub fn are_written(b: &[u8], at: usize, n: usize) -> bool
-    requires { ⌜ at + holdsRoom ≤ length (now b) ⌝ }
-    ensures { λ r. ⌜ r ≡ holdsWritten (now (b .entry)) at n ⌝ }
+// Whether the hold at a place ends after a time.
+fn ends_at_after(b: &[u8], at: usize, time: u64) -> bool
+    requires { ⌜ at + holdLength ≤ length (now b) ⌝ }
+    ensures { λ r. ⌜ r ≡ endAfter time (endOf (field (now (b .entry)) (at + addressLength) 5)) ⌝ }
 {
+    // The five octets of the end are the last of eight, which are one load.
+    let end = get(b, at + ADDRESS - 3, 8) % 1099511627776;
+    (end == 0) | (time < end)
+}
+
+// Whether at most 8 holds stand at a place, each with an address and an end after a time, and zeros behind them.
+pub fn stand_in_force(b: &[u8], at: usize, n: usize, time: u64) -> bool
+    requires { ⌜ at + holdsRoom ≤ length (now b) ⌝ }
+    ensures { λ r. ⌜ r ≡ holdsWritten (now (b .entry)) at n && allOf (endsAfter time) (holdsFrom (now (b .entry)) at n) ⌝ }
+{
+    if n == 0 {
+        return zeros_at(b, at, HOLDS_ROOM);
+    }
     if HOLDS < n {
         return false;
     }
@@ -112,9 +131,28 @@ pub fn are_written(b: &[u8], at: usize, n: usize) -> bool
         if !is_address(b, at + LENGTH * i) {
             return false;
         }
+        if !ends_at_after(b, at + LENGTH * i, time) {
+            return false;
+        }
         i += 1;
     }
     zeros_at(b, at + LENGTH * n, HOLDS_ROOM - LENGTH * n)
+}
+
+// The keys of the first n addresses held, and another key in the last of the eight places where it is free.
+pub fn keys(b: &[u8], at: usize, n: usize, other: u32) -> [u32; HOLDS]
+    requires { ⌜ (at + holdsRoom ≤ length (now b)) × (n ≤ mostHolds) ⌝ }
+    ensures { λ r. ⌜ KeysOf (now (b .entry)) at n other r ⌝ }
+{
+    let mut list = [0u32; HOLDS];
+    let mut i = 0;
+    while i < HOLDS {
+        let key = key_at(b, at + LENGTH * i);
+        let free = pick(i == HOLDS - 1, other, i as u32);
+        list[i] = pick(i < n, key, free);
+        i += 1;
+    }
+    list
 }
 
 // Whether the first n holds are for different addresses.
@@ -144,23 +182,6 @@ fn ends_after(end: End, time: u64) -> bool
     }
 }
 
-// Whether each of the first n holds ends after a time.
-pub fn all_end_after(list: [Hold; HOLDS], n: usize, time: u64) -> bool
-    requires { ⌜ n ≤ mostHolds ⌝ }
-    ensures { λ r. ⌜ r ≡ allOf (endsAfter time) (take n list) ⌝ }
-{
-    let mut i = 0;
-    while i < n {
-        let hold = list[i];
-        let end = hold.end;
-        if !ends_after(end, time) {
-            return false;
-        }
-        i += 1;
-    }
-    true
-}
-
 // The holds of a line: those below the count.
 pub struct Holds {
     pub list: [Hold; HOLDS],
@@ -173,6 +194,9 @@ pub fn in_force(list: [Hold; HOLDS], n: usize, time: u64) -> Holds
     ensures { λ r. ⌜ take (r .count) (r .list) ≡ only (endsAfter time) (take n list) ⌝ }
     ensures { λ r. ⌜ r .count ≤ n ⌝ }
 {
+    if n == 0 {
+        return Holds { list, count: 0 };
+    }
     let mut kept = list;
     let mut count = 0;
     let mut i = 0;

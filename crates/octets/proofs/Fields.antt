@@ -5,7 +5,7 @@ use mathlib.Core.List.{List, [], _∷_, _++_}
 use mathlib.Core.Path.{_≡_, refl, sym, ap, ap₂, _∙_, subst}
 use lib.ListN.{length, take, drop}
 use lib.Seq.{take-add, drop-drop, take-length}
-use Rattle.octets.specs.Digits.{be, field, number}
+use Rattle.octets.specs.Digits.{be, field, number, numberFrom}
 use Rattle.octets.specs.Laws.{below}
 use Rattle.octets.specs.Part.{part, zeros, zerosAt}
 use Rattle.octets.specs.Search.{allOf}
@@ -46,6 +46,12 @@ module _ (l : List ℕ) (octets : allOf (below 256) l ≡ true) (at n : ℕ) (fi
 -- a number that a field says is written as the field's octets
 pub number-back : (l : List ℕ) → allOf (below 256) l ≡ true → (at w x : ℕ) → at + w ≤ length l → field l at w ≡ x → be w x ≡ part l at w
 number-back l octets at w x h e = ap (be w) (sym e) ∙ be-field l octets at w h
+
+-- zeros say zero
+pub number-zeros : (n : ℕ) → number 256 (zeros n) ≡ 0
+unfolding number numberFrom zeros
+number-zeros zero = refl
+number-zeros (suc n) = number-zeros n
 
 pub zeros-back : (l : List ℕ) (at n : ℕ) → zerosAt l at n ≡ true → zeros n ≡ part l at n
 unfolding zerosAt

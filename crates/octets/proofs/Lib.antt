@@ -1,4 +1,5 @@
 -- The laws of the definitions of specs/, for the proofs of this crate and of those above it.
+pub mod Apart
 pub mod Counts
 pub mod Digits
 pub mod Elements
@@ -13,3 +14,5 @@ pub mod Search
 pub mod Splices
 pub mod Stands
 pub mod Sublists
+pub mod Words
+pub mod Zeros

@@ -1,11 +1,12 @@
 -- Lists of octets: what is written from numbers and zeros has no element of 256 or more.
-use Prim.Native.Nat.{ℕ, zero, suc, _-_, _/_, _%_}
+use Prim.Native.Nat.{ℕ, zero, suc, _-_, _/_, _%_, _<_}
 use mathlib.Core.Bool.{true}
 use mathlib.Core.List.{List, [], _∷_, _++_}
 use mathlib.Core.Path.{_≡_, refl}
 use native.Mathlib.Nat.{mod-lt}
 use native.Mathlib.Omega.{arith}
-use lib.ListN.{length}
+use lib.Dec.{ltb}
+use lib.ListN.{length, getD}
 use borrow.Author.Tests.{lt-ltb}
 use Rattle.octets.specs.Digits.{be, digits}
 use Rattle.octets.specs.Laws.{below}
@@ -17,6 +18,12 @@ use Rattle.octets.proofs.Search.{and-left, and-right, and-true}
 -- every element of a list is an octet
 pub record Octets (l : List ℕ) : Type 0 where
   pub octets : allOf (below 256) l ≡ true
+
+-- a list whose elements are octets by their numbers
+pub each-octet : (l : List ℕ) → ((i : ℕ) → getD l i 0 < 256) → allOf (below 256) l ≡ true
+unfolding allOf below
+each-octet [] h = refl
+each-octet (x ∷ l) h = and-true (ltb x 256) (allOf (below 256) l) (lt-ltb x 256 (h 0)) (each-octet l (λ i. h (suc i)))
 
 -- two lists, one behind the other
 pub joins : {a b : List ℕ} → Octets a → Octets b → Octets (a ++ b)

@@ -1,7 +1,7 @@
 -- The laws of rows, by which a loop over numbers goes along a row, and of the first element that passes.
 use Prim.Native.Nat.{ℕ, zero, suc, _+_, _-_, _*_, _≤_, _<_}
 use mathlib.Core.Bool.{Bool, true, false, not, _&&_, _||_}
-use mathlib.Core.List.{List, [], _∷_, _++_, append-assoc, append-nil}
+use mathlib.Core.List.{List, [], _∷_, _++_, map, append-assoc, append-nil}
 use mathlib.Core.Option.{none, some}
 use mathlib.Core.Path.{_≡_, refl, sym, ap, ap₂, _∙_, subst}
 use native.Mathlib.Nat.{add-zero, add-suc, suc-add, zero-add, add-comm, mul-zero, mul-suc, sub-zero, zero-sub, suc-sub-suc}
@@ -9,7 +9,7 @@ use native.Mathlib.Numerals.{add-one}
 use native.Mathlib.Omega.{arith}
 use lib.ListN.{length, getD, set, take, drop, replicate, length-append, drop-of-length-le}
 use lib.Seq.{drop-cons, getD-take, length-take-le, take-suc}
-use Rattle.octets.specs.Part.{Wrote}
+use Rattle.octets.specs.Part.{part, Wrote}
 use Rattle.octets.specs.Search.{allOf, anyOf, distinct}
 use Rattle.octets.specs.Row.{row, place, first, joined}
 use Rattle.octets.proofs.Parts.{then}
@@ -189,14 +189,6 @@ module _ {A : Type 0} (l : List A) (n i : ℕ) (long : n ≤ length l) where
 
   -- a test of each of them
   module _ (p : A → Bool) where
-    pub allOf-more : (d : A) → i < n → (t : Bool) → p (getD l i d) ≡ t → allOf p (drop i (take n l)) ≡ t && allOf p (drop (i + 1) (take n l))
-    unfolding allOf
-    allOf-more d h t e = rw (left-more d h, e)
-
-    pub allOf-none : n ≤ i → allOf p (drop i (take n l)) ≡ true
-    unfolding allOf
-    allOf-none h = rw (left-none h)
-
     pub anyOf-more : (d : A) → i < n → (t : Bool) → p (getD l i d) ≡ t → anyOf p (drop i (take n l)) ≡ t || anyOf p (drop (i + 1) (take n l))
     unfolding anyOf
     anyOf-more d h t e = rw (left-more d h, e)
@@ -215,3 +207,26 @@ module _ {A : Type 0} (l : List A) (n i : ℕ) (long : n ≤ length l) where
     pub distinct-none : n ≤ i → distinct alike (drop i (take n l)) ≡ true
     unfolding distinct
     distinct-none h = rw (left-none h)
+
+-- what each value of a row becomes
+pub map-row : {A B : Type 0} (g : A → B) (f : ℕ → A) (k n : ℕ) → map g (row f k n) ≡ row (λ i. g (f i)) k n
+unfolding row
+map-row g f k zero = refl
+map-row {B = B} g f k (suc n) = ap (λ (ys : List B). g (f k) ∷ ys) (map-row g f (suc k) n)
+
+-- the octet i places on from a place
+unfoldable pub octetOn : List ℕ → ℕ → ℕ → ℕ
+octetOn l at i = getD l (at + i) 0
+
+module _ (l : List ℕ) (at : ℕ) where
+  left-row : (k n : ℕ) → at + k + n ≤ length l → take n (drop (at + k) l) ≡ row (octetOn l at) k n
+  unfolding row octetOn
+  left-row k zero h = refl
+  left-row k (suc n) h =
+      ap (take (suc n)) (drop-cons l (at + k) 0 (omega arith))
+      ∙ ap (λ (m : List ℕ). getD l (at + k) 0 ∷ m) (ap (λ (i : ℕ). take n (drop i l)) (sym (add-suc at k)) ∙ left-row (suc k) n (omega arith))
+
+  -- a part is the row of its octets
+  pub part-row : (n : ℕ) → at + n ≤ length l → part l at n ≡ row (octetOn l at) 0 n
+  unfolding part
+  part-row n h = ap (λ (i : ℕ). take n (drop i l)) (sym (add-zero at)) ∙ left-row 0 n (omega arith)

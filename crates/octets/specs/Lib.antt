@@ -5,3 +5,4 @@ pub mod Search
 pub mod Row
 pub mod Refusal
 pub mod Laws
+pub mod Differ

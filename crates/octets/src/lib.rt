@@ -1,4 +1,5 @@
 // Numbers as octets, and slices of octets.
+pub mod differ;
 pub mod number;
 pub mod slice;
 

@@ -1,6 +1,8 @@
 // Slices of octets: cleared, copied, compared, and a part handed back.
+use crate::number::wide;
 ghost use mathlib.Core.Path.{_≡_};
 ghost use Prim.Native.Nat.{_+_, _-_, _≤_};
+ghost use lib.Dec.{eqb};
 ghost use lib.ListN.{length};
 ghost use Rattle.octets.specs.Part.{octetIs, part, same, zeros, zerosAt, Wrote};
 ghost use Rattle.octets.specs.Search.{least};
@@ -45,8 +47,23 @@ pub fn same(a: &[u8], b: &[u8]) -> bool
     true
 }
 
-// Whether the n octets from `at` are zeros; a loop without an early end is compiled to few instructions.
-pub fn zeros_at(s: &[u8], at: usize, n: usize) -> bool
+// Eight octets as one number, the first of them lowest: zero exactly where all of them are.
+fn word(s: &[u8], at: usize) -> u64
+    requires { ⌜ at + 8 ≤ length (now s) ⌝ }
+    ensures { λ r. ⌜ eqb r 0 ≡ zerosAt (now (s .entry)) at 8 ⌝ }
+{
+    wide(s[at])
+        + wide(s[at + 1]) * 256
+        + wide(s[at + 2]) * 65536
+        + wide(s[at + 3]) * 16777216
+        + wide(s[at + 4]) * 4294967296
+        + wide(s[at + 5]) * 1099511627776
+        + wide(s[at + 6]) * 281474976710656
+        + wide(s[at + 7]) * 72057594037927936
+}
+
+// Whether the n octets from `at` are zeros, octet by octet.
+fn zeros_by_octets(s: &[u8], at: usize, n: usize) -> bool
     requires { ⌜ at + n ≤ length (now s) ⌝ }
     ensures { λ r. ⌜ r ≡ zerosAt (now (s .entry)) at n ⌝ }
 {
@@ -56,6 +73,24 @@ pub fn zeros_at(s: &[u8], at: usize, n: usize) -> bool
     while i < end {
         bits = bits | s[i];
         i += 1;
+    }
+    bits == 0
+}
+
+// Whether the n octets from `at` are zeros, by words that are tested once; the last word overlaps the one before it.
+pub fn zeros_at(s: &[u8], at: usize, n: usize) -> bool
+    requires { ⌜ at + n ≤ length (now s) ⌝ }
+    ensures { λ r. ⌜ r ≡ zerosAt (now (s .entry)) at n ⌝ }
+{
+    if n < 8 {
+        return zeros_by_octets(s, at, n);
+    }
+    let last = at + n - 8;
+    let mut bits = word(s, last);
+    let mut i = at;
+    while i < last {
+        bits = bits | word(s, i);
+        i += 8;
     }
     bits == 0
 }

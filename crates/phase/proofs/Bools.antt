@@ -1,7 +1,8 @@
 -- Tests joined in another order, and what the octet that was read decides.
-use Prim.Native.Nat.{ℕ}
+use Prim.Native.Nat.{ℕ, _≤_, _<_}
 use mathlib.Core.Bool.{Bool, true, false, _&&_}
 use mathlib.Core.Path.{_≡_, refl, subst}
+use native.Mathlib.Omega.{arith}
 use lib.Dec.{eqb}
 use borrow.Author.Tests.{ne-eqb}
 
@@ -36,3 +37,10 @@ and-pairs true true false d e = refl
 and-pairs true false true d e = refl
 and-pairs true false false d e = refl
 and-pairs false b c d e = refl
+
+-- a number that is none of the first three, and the last number of a phase
+pub above-2 : (n : ℕ) → (n ≡ 0 → ⊥) → (n ≡ 1 → ⊥) → (n ≡ 2 → ⊥) → 2 < n
+above-2 n f g h = omega arith
+
+pub is-8 : (n : ℕ) → 2 < n → n ≤ 8 → (n ≡ 3 → ⊥) → (n ≡ 4 → ⊥) → (n ≡ 5 → ⊥) → (n ≡ 6 → ⊥) → (n ≡ 7 → ⊥) → n ≡ 8
+is-8 n low high f g h i j = omega arith

@@ -5,4 +5,5 @@ pub mod Phases
 pub mod Writes
 pub mod Reading
 pub mod Stages
+pub mod Stood
 pub mod Writing

@@ -17,13 +17,7 @@ use Rattle.addresses.specs.Addresses.{addressOctets, addressFrom, isAddress}
 use Rattle.addresses.proofs.RoundTrip.{address-octets}
 use Rattle.phase.specs.Facts.{placeOctets, placeFrom, placeWritten, registeredOctets, registeredFrom, registeredWritten, factsOctets, factsFrom, factsWritten}
 use Rattle.phase.specs.Phase.{askingOctets, havingOctets, phaseFrom, phaseOctets, phaseWritten, turnFrom, turnOctets, turnWritten, havingFrom}
-
-above-2 : (n : ℕ) → (n ≡ 0 → ⊥) → (n ≡ 1 → ⊥) → (n ≡ 2 → ⊥) → 2 < n
-above-2 n f g h = omega arith
-
--- the last number of a phase
-is-8 : (n : ℕ) → 2 < n → n ≤ 8 → (n ≡ 3 → ⊥) → (n ≡ 4 → ⊥) → (n ≡ 5 → ⊥) → (n ≡ 6 → ⊥) → (n ≡ 7 → ⊥) → n ≡ 8
-is-8 n low high f g h i j = omega arith
+use Rattle.phase.proofs.Bools.{above-2, is-8}
 
 module _ (l : List ℕ) (octets : allOf (below 256) l ≡ true) where
   module _ (at : ℕ) (fits : at + 3 ≤ length l) (w : placeWritten l at ≡ true) where

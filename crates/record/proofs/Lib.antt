@@ -1,5 +1,6 @@
 -- The laws that the proofs of this crate share.
 pub mod Counts
+pub mod Held
 pub mod Lines
 pub mod Sounds
 pub mod Writing

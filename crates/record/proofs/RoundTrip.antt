@@ -36,7 +36,7 @@ use Rattle.record.specs.Line.{Line}
 use Rattle.record.specs.Octets.{lineFrom, recordOctets, recordLength, childrenPlace}
 use Rattle.record.specs.Sound.{childrenSound, holdsSound, inRange, chosenFree, isRecord, lineSound, lineWritten}
 use Rattle.record.proofs.Lines.{line-read}
-use Rattle.record.proofs.Sounds.{child-octet, hold-octet, record-line, record-lists}
+use Rattle.record.proofs.Sounds.{child-octet, hold-octet, record-line}
 use Rattle.record.proofs.Writing.{counted, counted-length, first-count, head, head-length, held-length}
 
 -- what the soundness of a line says of its parts
@@ -225,8 +225,8 @@ module _ (m : List ℕ) (octets : allOf (below 256) m ≡ true) (size : length m
   pub storable : lineStorable (lineFrom m) ≡ true
   unfolding lineStorable lineFrom
   storable =
-      let few-h : field m 25 1 ≤ 8 = hold-octet m (record-lists m sound) in
-      let few-c : field m 26 1 ≤ 8 = child-octet m (record-lists m sound) in
+      let few-h : field m 25 1 ≤ 8 = hold-octet m sound in
+      let few-c : field m 26 1 ≤ 8 = child-octet m sound in
       rw (lt-ltb (field m 1 4) (256 ^ 4) (field-below m octets 1 4 (omega arith)), Reading.storable m 5 octets (omega arith), Holds.storable m 27 (field m 25 1) octets (omega arith), Children.storable m childrenPlace (field m 26 1) octets (omega arith))
 
 pub octets : (pair : ℕ) (x : Line) → allOf (below 256) (recordOctets pair x) ≡ true

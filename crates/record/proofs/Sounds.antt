@@ -1,171 +1,203 @@
--- What the tests of a line's holds and children come to.
+-- A sound record, part by part: what follows from it, and what it follows from.
 use Prim.Native.Nat.{ℕ, _+_, _-_, _*_, _≤_, _<_}
-use mathlib.Core.Bool.{Bool, true, false, _&&_, _||_}
-use mathlib.Core.List.{List, [], _∷_, map}
-use mathlib.Core.Path.{_≡_, refl, sym, ap, _∙_}
-use native.Mathlib.Nat.{suc-ne-zero}
+use mathlib.Core.Bool.{Bool, true, false, false≢true, _&&_, _||_}
+use mathlib.Core.List.{List}
+use mathlib.Core.Path.{_≡_, refl, sym, ap, _∙_, subst}
 use native.Mathlib.Omega.{arith}
-use lib.Dec.{leb, eqb}
+use lib.Dec.{eqb, leb, ltb}
 use lib.ListN.{length}
-use borrow.Author.Tests.{le-leb, lt-leb, leb-true, eq-eqb, ne-eqb}
+use borrow.Author.Tests.{le-leb, leb-true, lt-leb, le-ltb, ltb-false, ltb-true, ne-eqb}
 use Rattle.octets.specs.Digits.{field}
 use Rattle.octets.specs.Part.{zerosAt}
-use Rattle.octets.specs.Search.{all, allOf, distinct}
-use Rattle.octets.proofs.Search.{and-left, and-right, and-true, and-false}
-use Rattle.address.specs.Address.{addressIn}
+use Rattle.octets.specs.Search.{all, allOf}
+use Rattle.octets.proofs.Rows.{length-row}
+use Rattle.octets.proofs.Search.{and-left, and-right, and-true, either, or-left, or-other, or-right}
 use Rattle.address.specs.declared.Hold.{Hold}
-use Rattle.children.specs.Children.{childFits, childrenWritten, spisDiffer}
+use Rattle.children.specs.Children.{childFits, childIn, childrenFrom, childrenWritten, spisDiffer}
 use Rattle.children.specs.declared.Child.{Child}
-use Rattle.holds.specs.Holds.{different, endsAfter, hasAddress, holdsWritten, holdsRoom}
+use Rattle.holds.specs.Holds.{different, endsAfter, hasAddress, holdIn, holdsFrom, holdsWritten}
 use Rattle.phase.specs.Chosen.{chosen}
 use Rattle.phase.specs.Phase.{isPhase, phaseFits, phaseFrom, phaseWritten}
-use Rattle.phase.specs.Stage.{isIn}
+use Rattle.phase.specs.Stage.{isIn, stageNumber, stageOf}
 use Rattle.phase.specs.Stage as Stage
 use Rattle.phase.specs.declared.Phase.{Phase}
-use Rattle.record.specs.Branch.{listsSound, listsWritten}
-use Rattle.record.specs.Line.{Line}
-use Rattle.record.specs.Octets.{lineFrom, childrenPlace}
-use Rattle.record.specs.Sound.{childrenSound, holdsSound, inRange, chosenFree, isRecord, lineSound, lineWritten}
+use Rattle.phase.proofs.Stood.{stage-at}
+use Rattle.record.specs.Branch.{apart, countsFit, heldIn, Comparable}
+use Rattle.record.specs.Octets.{childrenPlace, lineFrom}
+use Rattle.record.specs.Sound.{childrenSound, chosenFree, holdsSound, inRange, isRecord, lineSound, lineWritten}
 
-module _ (p : Phase) (cs : List Child) (n : ℕ) (size : length cs ≡ n) (few : n ≤ 8) where
-  pub live-children : isIn Stage.live p ≡ true → spisDiffer cs ≡ childrenSound p cs
-  unfolding childrenSound
-  live-children e =
-      let within : length cs ≤ 8 = omega arith in
-      sym (rw (le-leb (length cs) 8 within, e))
+-- no number is below 1
+none-below : (n : ℕ) → leb n 0 ≡ eqb n 0
+none-below n = either n 0 (λ e. rw e) (λ h. lt-leb n 0 (omega arith) ∙ sym (ne-eqb n 0 h))
 
-pub other-children : (p : Phase) (cs : List Child) (n : ℕ) → length cs ≡ n → n ≤ 8 → isIn Stage.live p ≡ false → eqb n 0 ≡ childrenSound p cs
-unfolding childrenSound spisDiffer distinct
-other-children p [] n size few e = eq-eqb n 0 (sym size) ∙ sym (rw e)
-other-children p (c ∷ cs) n size few e =
-    let within : length (c ∷ cs) ≤ 8 = omega arith in
-    ne-eqb n 0 (λ z. suc-ne-zero _ (size ∙ z)) ∙ sym (rw (le-leb (length (c ∷ cs)) 8 within, e, lt-leb (length (c ∷ cs)) 0 (omega arith)))
+and-last : (b : Bool) → b && true ≡ b
+and-last true = refl
+and-last false = refl
 
-module _ (time : ℕ) (p : Phase) (hs : List Hold) (n : ℕ) (size : length hs ≡ n) (few : n ≤ 8) where
-  within : leb (length hs) 8 ≡ true
-  within = le-leb (length hs) 8 (omega arith)
+-- what the tests of n children and of m holds answer
+abbrev pub ChildrenAre : List ℕ → ℕ → Bool
+ChildrenAre l n = childrenWritten l childrenPlace n && allOf childFits (childrenFrom l childrenPlace n) && spisDiffer (childrenFrom l childrenPlace n)
 
-  room-is : (t : Bool) → isIn Stage.idle p || leb n 7 ≡ t → isIn Stage.idle p || leb (length hs) 7 ≡ t
-  room-is t e = ap (λ (k : ℕ). isIn Stage.idle p || leb k 7) size ∙ e
+abbrev pub HoldsAre : List ℕ → ℕ → ℕ → Bool
+HoldsAre l time m = holdsWritten l 27 m && allOf (endsAfter time) (holdsFrom l 27 m)
 
-  pub no-room : isIn Stage.idle p || leb n 7 ≡ false → false ≡ holdsSound time p hs
-  unfolding holdsSound
-  no-room e = sym (rw (within, room-is false e))
-
-  module _ (room : isIn Stage.idle p || leb n 7 ≡ true) where
-    pub held-twice : different (map addressIn hs) ≡ false → false ≡ holdsSound time p hs
-    unfolding holdsSound
-    held-twice e = sym (rw (within, room-is true room, e))
-
-    module _ (once : different (map addressIn hs) ≡ true) where
-      pub chosen-held : chosenFree (chosen p) (map addressIn hs) ≡ false → false ≡ holdsSound time p hs
-      unfolding holdsSound
-      chosen-held e = sym (rw (within, room-is true room, once, e))
-
-      pub by-ends : chosenFree (chosen p) (map addressIn hs) ≡ true → allOf (endsAfter time) hs ≡ holdsSound time p hs
-      unfolding holdsSound
-      by-ends e = sym (rw (within, room-is true room, once, e))
-
--- the lists of a line
-module _ (time : ℕ) (p : Phase) (hs : List Hold) (cs : List Child) where
-  pub child-out : allOf childFits cs ≡ false → false ≡ listsSound time p hs cs
-  unfolding listsSound
-  child-out e = sym (rw e)
-
-  module _ (fit : allOf childFits cs ≡ true) where
-    pub children-out : childrenSound p cs ≡ false → false ≡ listsSound time p hs cs
-    unfolding listsSound
-    children-out e = sym (rw (fit, e))
-
-    pub by-holds : childrenSound p cs ≡ true → holdsSound time p hs ≡ listsSound time p hs cs
-    unfolding listsSound
-    by-holds e = sym (rw (fit, e))
-
--- a whole record
 module _ (l : List ℕ) where
-  pub holds-unwritten : holdsWritten l 27 (field l 25 1) ≡ false → false ≡ listsWritten l
-  unfolding listsWritten
-  holds-unwritten e = sym (rw e)
+  abbrev p : Phase
+  p = phaseFrom l 5
 
-  pub by-children : holdsWritten l 27 (field l 25 1) ≡ true → childrenWritten l childrenPlace (field l 26 1) ≡ listsWritten l
-  unfolding listsWritten
-  by-children e = sym (rw e)
+  abbrev m : ℕ
+  m = field l 25 1
 
-  pub hold-octet : listsWritten l ≡ true → field l 25 1 ≤ 8
-  unfolding listsWritten holdsWritten
-  hold-octet e =
-      let n = field l 25 1 in
-      leb-true n 8 (and-left (leb n 8) (all n (hasAddress l 27)) (and-left (leb n 8 && all n (hasAddress l 27)) _ (and-left (leb n 8 && all n (hasAddress l 27) && zerosAt l (27 + 22 * n) (holdsRoom - 22 * n)) _ e)))
+  abbrev n : ℕ
+  n = field l 26 1
 
-  pub child-octet : listsWritten l ≡ true → field l 26 1 ≤ 8
-  unfolding listsWritten childrenWritten
-  child-octet e =
-      let n = field l 26 1 in
-      leb-true n 8 (and-left (leb n 8) _ (and-right (holdsWritten l 27 (field l 25 1)) (leb n 8 && zerosAt l (childrenPlace + 5 * n) (40 - 5 * n)) e))
+  abbrev hs : List Hold
+  hs = holdsFrom l 27 m
 
-  pub no-pair : field l 0 1 < 1 → false ≡ isRecord l
-  unfolding isRecord
-  no-pair h = sym (rw (lt-leb 1 (field l 0 1) h))
+  abbrev cs : List Child
+  cs = childrenFrom l childrenPlace n
 
-  module _ (low : 1 ≤ field l 0 1) where
-    pub past-pairs : 64 < field l 0 1 → false ≡ isRecord l
-    unfolding isRecord
-    past-pairs h = sym (rw (le-leb 1 (field l 0 1) low, lt-leb (field l 0 1) 64 h))
+  -- the tests of a record, one by one
+  pub record Parts : Type 0 where
+    pub low : leb 1 (field l 0 1) ≡ true
+    pub high : leb (field l 0 1) 64 ≡ true
+    pub phase-written : phaseWritten l 5 ≡ true
+    pub holds-written : holdsWritten l 27 m ≡ true
+    pub children-written : childrenWritten l childrenPlace n ≡ true
+    pub phase-fits : phaseFits p ≡ true
+    pub fit : allOf childFits cs ≡ true
+    pub on-live : isIn Stage.live p || leb (length cs) 0 ≡ true
+    pub spis : spisDiffer cs ≡ true
+    pub room : isIn Stage.idle p || leb (length hs) 7 ≡ true
+    pub once : different (heldIn l m) ≡ true
+    pub free : chosenFree (chosen p) (heldIn l m) ≡ true
+    pub in-force : allOf (endsAfter (field l 1 4)) hs ≡ true
 
-    module _ (high : field l 0 1 ≤ 64) where
-      unsound : lineSound (lineFrom l) ≡ false → false ≡ isRecord l
-      unfolding isRecord
-      unsound e = sym (and-false (leb 1 (field l 0 1) && leb (field l 0 1) 64 && lineWritten l) (lineSound (lineFrom l)) e)
+  pub parts : isRecord l ≡ true → Parts
+  unfolding isRecord lineWritten lineSound lineFrom inRange childrenSound holdsSound
+  parts e = record {
+    low = search (and-left, and-right);
+    high = search (and-left, and-right);
+    phase-written = search (and-left, and-right);
+    holds-written = search (and-left, and-right);
+    children-written = search (and-left, and-right);
+    phase-fits = search (and-left, and-right);
+    fit = search (and-left, and-right);
+    on-live = search (and-left, and-right);
+    spis = search (and-left, and-right);
+    room = search (and-left, and-right);
+    once = search (and-left, and-right);
+    free = search (and-left, and-right);
+    in-force = search (and-left, and-right);
+  }
 
-      unwritten-record : lineWritten l ≡ false → false ≡ isRecord l
-      unfolding isRecord
-      unwritten-record e = sym (rw (le-leb 1 (field l 0 1) low, le-leb (field l 0 1) 64 high, e))
+  -- a record whose test fails is not sound
+  fails : {b : Bool} → (Parts → b ≡ true) → b ≡ false → false ≡ isRecord l
+  fails {b} says e = go (isRecord l) refl
+    where
+      go : (t : Bool) → isRecord l ≡ t → false ≡ t
+      go true q = absurd (false≢true (sym e ∙ says (parts q)))
+      go false q = refl
 
-      pub no-phase : isPhase l 5 ≡ false → false ≡ isRecord l
-      unfolding isPhase lineWritten lineSound inRange lineFrom
-      no-phase e = go (phaseWritten l 5) refl
-        where
-          go : (t : Bool) → phaseWritten l 5 ≡ t → false ≡ isRecord l
-          go true q =
-              let out : phaseFits (phaseFrom l 5) ≡ false = sym (rw q) ∙ e in
-              unsound (rw out)
-          go false q = unwritten-record (rw q)
+  -- the pair's number
+  pub no-pair : (k : ℕ) → k ≡ field l 0 1 → ltb k 1 || ltb 64 k ≡ true → false ≡ isRecord l
+  no-pair k e out = fails {b = false} (λ s. absurd (never s)) refl
+    where
+      never : Parts → ⊥
+      never s =
+          let from : 1 ≤ k = rw (e) (leb-true 1 (field l 0 1) (s .low)) in
+          let past : 64 < k = ltb-true 64 k (or-other (ltb k 1) (ltb 64 k) out (le-ltb k 1 from)) in
+          omega (arith, leb-true (field l 0 1) 64 (s .high), e)
 
-      module _ (phased : isPhase l 5 ≡ true) where
-        written-is : phaseWritten l 5 ≡ true
-        unfolding isPhase
-        written-is = and-left (phaseWritten l 5) (phaseFits (phaseFrom l 5)) phased
+  counted-holds : length hs ≡ m
+  unfolding holdsFrom
+  counted-holds = length-row (holdIn l 27) 0 m
 
-        fits-is : phaseFits (phaseFrom l 5) ≡ true
-        unfolding isPhase
-        fits-is = and-right (phaseWritten l 5) (phaseFits (phaseFrom l 5)) phased
+  counted-children : length cs ≡ n
+  unfolding childrenFrom
+  counted-children = length-row (childIn l childrenPlace) 0 n
 
-        pub lists-unwritten : listsWritten l ≡ false → false ≡ isRecord l
-        unfolding listsWritten lineWritten
-        lists-unwritten e = unwritten-record (rw written-is e)
+  -- the phase, and the counts that it allows
+  phase-stands : Parts → isPhase l 5 ≡ true
+  unfolding isPhase
+  phase-stands s = and-true (phaseWritten l 5) (phaseFits p) (s .phase-written) (s .phase-fits)
 
-        pub by-lists : listsWritten l ≡ true → (x : Line) → x ≡ lineFrom l → listsSound (x .time) (x .phase) (x .holds) (x .children) ≡ isRecord l
-        unfolding listsWritten lineWritten listsSound isRecord lineSound inRange lineFrom
-        by-lists e x q = ap (λ (y : Line). listsSound (y .time) (y .phase) (y .holds) (y .children)) q ∙ sound-is
-          where
-            all-written : lineWritten l ≡ true
-            all-written = rw written-is e
+  pub no-phase : isPhase l 5 ≡ false → false ≡ isRecord l
+  no-phase = fails phase-stands
 
-            sound-is : listsSound (lineFrom l .time) (lineFrom l .phase) (lineFrom l .holds) (lineFrom l .children) ≡ isRecord l
-            sound-is = sym (rw (le-leb 1 (field l 0 1) low, le-leb (field l 0 1) 64 high, all-written, fits-is))
+  module _ (stage : ℕ) (read : stage ≡ field l 5 1) (stands : isPhase l 5 ≡ true) where
+    counts-are : countsFit stage m n ≡ (isIn Stage.idle p || leb (length hs) 7) && (isIn Stage.live p || leb (length cs) 0)
+    unfolding countsFit isIn
+    counts-are = rw (counted-holds, counted-children, stage-at l 5 stands, none-below n, read)
+
+    pub miscounted : countsFit stage m n ≡ false → false ≡ isRecord l
+    miscounted = fails (λ s. counts-are ∙ and-true (isIn Stage.idle p || leb (length hs) 7) (isIn Stage.live p || leb (length cs) 0) (s .room) (s .on-live))
+
+    -- what the counts say
+    pub room-is : countsFit stage m n ≡ true → isIn Stage.idle p || leb m 7 ≡ true
+    room-is e =
+        ap (λ (k : ℕ). isIn Stage.idle p || leb k 7) (sym counted-holds)
+        ∙ and-left (isIn Stage.idle p || leb (length hs) 7) (isIn Stage.live p || leb (length cs) 0) (sym counts-are ∙ e)
+
+  -- the children
+  pub no-children : ChildrenAre l n ≡ false → false ≡ isRecord l
+  no-children = fails (λ s. and-true (childrenWritten l childrenPlace n && allOf childFits cs) (spisDiffer cs) (and-true (childrenWritten l childrenPlace n) (allOf childFits cs) (s .children-written) (s .fit)) (s .spis))
+
+  -- the holds
+  pub no-holds : (time : ℕ) → time ≡ field l 1 4 → HoldsAre l time m ≡ false → false ≡ isRecord l
+  no-holds time read = fails (λ s. and-true (holdsWritten l 27 m) (allOf (endsAfter time) hs) (s .holds-written) (ap (λ (k : ℕ). allOf (endsAfter k) hs) read ∙ s .in-force))
+
+  few-holds : holdsWritten l 27 m ≡ true → m ≤ 8
+  unfolding holdsWritten
+  few-holds e = leb-true m 8 (search (and-left, and-right))
+
+  few-children : childrenWritten l childrenPlace n ≡ true → n ≤ 8
+  unfolding childrenWritten
+  few-children e = leb-true n 8 (search (and-left, and-right))
+
+  -- what is left once the other tests are passed
+  module _ (k : ℕ) (own : k ≡ field l 0 1) (paired : ltb k 1 || ltb 64 k ≡ false) (stage : ℕ) (staged : stage ≡ field l 5 1)
+      (stands : isPhase l 5 ≡ true) (counts : countsFit stage m n ≡ true) (time : ℕ) (timed : time ≡ field l 1 4)
+      (good : HoldsAre l time m ≡ true) where
+    written : holdsWritten l 27 m ≡ true
+    written = and-left (holdsWritten l 27 m) (allOf (endsAfter time) hs) good
+
+    comparable : Comparable l m
+    unfolding holdsWritten
+    comparable = record { phased = stands; addressed = search (and-left, and-right); few = few-holds written; room = room-is stage staged stands counts }
+
+    by-apart : ChildrenAre l n ≡ true → apart l m ≡ isRecord l
+    unfolding isRecord lineWritten lineSound lineFrom inRange childrenSound holdsSound isPhase apart
+    by-apart tunnels =
+        let from : leb 1 (field l 0 1) ≡ true = rw (← own) (le-leb 1 k (ltb-false k 1 (or-left (ltb k 1) (ltb 64 k) paired))) in
+        let to : leb (field l 0 1) 64 ≡ true = rw (← own) (le-leb k 64 (ltb-false 64 k (or-right (ltb k 1) (ltb 64 k) paired))) in
+        let ends : allOf (endsAfter (field l 1 4)) hs ≡ true = rw (← timed) (and-right (holdsWritten l 27 m) (allOf (endsAfter time) hs) good) in
+        let phase-is : phaseWritten l 5 ≡ true = and-left (phaseWritten l 5) (phaseFits p) stands in
+        let phase-in : phaseFits p ≡ true = and-right (phaseWritten l 5) (phaseFits p) stands in
+        let allowed = sym (counts-are stage staged stands) ∙ counts in
+        let busy : isIn Stage.idle p || leb (length hs) 7 ≡ true = and-left (isIn Stage.idle p || leb (length hs) 7) (isIn Stage.live p || leb (length cs) 0) allowed in
+        let live : isIn Stage.live p || leb (length cs) 0 ≡ true = and-right (isIn Stage.idle p || leb (length hs) 7) (isIn Stage.live p || leb (length cs) 0) allowed in
+        let tunnelled : childrenWritten l childrenPlace n ≡ true = search (and-left, and-right) in
+        let in-range : allOf childFits cs ≡ true = search (and-left, and-right) in
+        let once : spisDiffer cs ≡ true = search (and-left, and-right) in
+        let eight-holds : leb (length hs) 8 ≡ true = ap (λ (i : ℕ). leb i 8) counted-holds ∙ le-leb m 8 (few-holds written) in
+        let eight-children : leb (length cs) 8 ≡ true = ap (λ (i : ℕ). leb i 8) counted-children ∙ le-leb n 8 (few-children tunnelled) in
+        sym (rw (from, to, phase-is, written, tunnelled, phase-in, in-range, eight-children, live, once, eight-holds, busy, ends) (and-last (different (heldIn l m) && chosenFree (chosen p) (heldIn l m))))
+
+    -- the addresses can be compared, and decide
+    pub all-passed : ChildrenAre l n ≡ true → (i : ℕ) → i ≡ m → Comparable l i × (apart l i ≡ isRecord l)
+    all-passed tunnels i read = subst (λ (j : ℕ). Comparable l j × (apart l j ≡ isRecord l)) (sym read) (comparable, by-apart tunnels)
 
 -- what a sound record does not use is zero
 pub record-line : (l : List ℕ) → isRecord l ≡ true → lineWritten l ≡ true
-unfolding isRecord
+unfolding lineWritten
 record-line l e =
-    let pairs = leb 1 (field l 0 1) && leb (field l 0 1) 64 in
-    and-right pairs (lineWritten l) (and-left (pairs && lineWritten l) (lineSound (lineFrom l)) e)
+    let s = parts l e in
+    rw (s .phase-written, s .holds-written) (s .children-written)
 
--- what a sound record's lists do not use is zero
-pub record-lists : (l : List ℕ) → isRecord l ≡ true → listsWritten l ≡ true
-unfolding lineWritten listsWritten
-record-lists l e =
-    let holds = holdsWritten l 27 (field l 25 1) in
-    let children = childrenWritten l childrenPlace (field l 26 1) in
-    let written : lineWritten l ≡ true = record-line l e in
-    and-true holds children (and-right (phaseWritten l 5) holds (and-left (phaseWritten l 5 && holds) children written)) (and-right (phaseWritten l 5 && holds) children written)
+-- its lists are within their bounds
+pub hold-octet : (l : List ℕ) → isRecord l ≡ true → field l 25 1 ≤ 8
+hold-octet l e = few-holds l (parts l e .holds-written)
+
+pub child-octet : (l : List ℕ) → isRecord l ≡ true → field l 26 1 ≤ 8
+child-octet l e = few-children l (parts l e .children-written)

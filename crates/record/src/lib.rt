@@ -31,7 +31,7 @@ ghost use Rattle.record.specs.Line.{lineOf, InArrays};
 ghost use Rattle.record.specs.Octets.{childCountPlace, holdCountPlace, lineFrom, recordLength, recordOctets};
 
 // Where the parts of a record stand: the pair first, then the time, the phase, both counts, the holds and the children.
-const TIME_AT: usize = 1;
+pub const TIME_AT: usize = 1;
 
 pub(crate) const PHASE_AT: usize = 5;
 

@@ -1,51 +1,53 @@
-// When a record is sound.
+// When a record is sound: its octets are tested where they lie.
 use crate::CHILD_COUNT_AT;
 use crate::CHILDREN_AT;
 use crate::HOLD_COUNT_AT;
 use crate::HOLDS_AT;
 use crate::PAIRS;
 use crate::PHASE_AT;
-use crate::read_record;
+use crate::TIME_AT;
 use address::HOLDS;
 use address::Hold;
 use address::is_held;
-use children::CHILDREN;
-use children::Child;
-use children::all_fit;
-use holds::all_end_after;
+use addresses::key_at;
+use holds::are_different;
+use holds::keys;
+use holds::read_holds;
+use holds::stand_in_force;
+use octets::differ::all_differ;
 use octets::number::get;
+use phase::CHOSEN;
 use phase::IDLE;
 use phase::LIVE;
 use phase::MaybeAddress;
 use phase::Phase;
 use phase::chosen;
 use phase::codec::is_phase;
-use phase::number;
-ghost use mathlib.Core.Bool.{_||_};
+use phase::codec::read_phase;
+ghost use mathlib.Core.Bool.{true};
 ghost use mathlib.Core.Path.{_≡_};
-ghost use Prim.Native.Nat.{_≤_};
-ghost use lib.Dec.{leb};
+ghost use Prim.Native.Nat.{_+_, _≤_};
 ghost use lib.ListN.{length, take};
+ghost use Rattle.octets.specs.Digits.{field};
 ghost use Rattle.address.specs.Address.{heldAddresses, mostHolds};
-ghost use Rattle.children.specs.Children.{mostChildren};
+ghost use Rattle.addresses.specs.Keys.{keyAt};
 ghost use Rattle.phase.specs.Chosen.{chosen};
-ghost use Rattle.phase.specs.Stage.{isIn};
 ghost use Rattle.phase.specs.Stage as Stage;
-ghost use Rattle.record.specs.Octets.{recordLength};
-ghost use Rattle.record.specs.Branch.{listsSound, listsWritten};
-ghost use Rattle.record.specs.Sound.{childrenSound, holdsSound, chosenFree, isRecord, mostBusyHolds};
+ghost use Rattle.record.specs.Octets.{phasePlace, recordLength};
+ghost use Rattle.record.specs.Branch.{apart, countsFit, Comparable};
+ghost use Rattle.record.specs.Sound.{chosenFree, isRecord};
 
 // How many holds a line that is not idle has room for.
 const BUSY_HOLDS: usize = 7;
 
-// Whether a line in a phase may have n holds of eight.
-fn has_room(phase: Phase, n: usize) -> bool
-    ensures { λ r. ⌜ r ≡ isIn Stage.idle phase || leb n mostBusyHolds ⌝ }
+// What stands for the key of a chosen address where there is none: any number will do.
+const NO_KEY: u32 = 7;
+
+// Whether a line whose phase has a number may have m holds of eight, and n children of eight.
+fn counts_fit(stage: u64, m: usize, n: usize) -> bool
+    ensures { λ r. ⌜ r ≡ countsFit stage m n ⌝ }
 {
-    if number(phase) == IDLE {
-        return true;
-    }
-    n <= BUSY_HOLDS
+    ((stage == IDLE) | (m <= BUSY_HOLDS)) & ((stage == LIVE) | (n == 0))
 }
 
 // Whether none of the first n holds is the chosen address.
@@ -59,66 +61,34 @@ fn is_free(phase: Phase, holds: [Hold; HOLDS], n: usize) -> bool
     }
 }
 
-// Whether the first n children are those that a line in a phase may have.
-fn are_children(phase: Phase, list: [Child; CHILDREN], n: usize) -> bool
-    requires { ⌜ n ≤ mostChildren ⌝ }
-    ensures { λ r. ⌜ r ≡ childrenSound phase (take n list) ⌝ }
-{
-    if number(phase) == LIVE {
-        return children::are_different(list, n);
-    }
-    n == 0
-}
-
-// Whether the first n holds are those that a line in a phase may have.
-fn are_holds(time: u64, phase: Phase, list: [Hold; HOLDS], n: usize) -> bool
-    requires { ⌜ n ≤ mostHolds ⌝ }
-    ensures { λ r. ⌜ r ≡ holdsSound time phase (take n list) ⌝ }
-{
-    if !has_room(phase, n) {
-        return false;
-    }
-    if !holds::are_different(list, n) {
-        return false;
-    }
-    if !is_free(phase, list, n) {
-        return false;
-    }
-    all_end_after(list, n, time)
-}
-
-// Whether the numbers of the first n children are in their ranges, and these and the first m holds are those that a line may have.
-fn are_lists(
-    time: u64,
-    phase: Phase,
-    holds: [Hold; HOLDS],
-    m: usize,
-    children: [Child; CHILDREN],
-    n: usize,
-) -> bool
-    requires { ⌜ (m ≤ mostHolds) × (n ≤ mostChildren) ⌝ }
-    ensures { λ r. ⌜ r ≡ listsSound time phase (take m holds) (take n children) ⌝ }
-{
-    if !all_fit(children, n) {
-        return false;
-    }
-    if !are_children(phase, children, n) {
-        return false;
-    }
-    are_holds(time, phase, holds, m)
-}
-
-// Whether a record has holds and children, and zeros in the places that they do not use.
-fn is_written(b: &[u8]) -> bool
+// The key of the chosen address.
+fn chosen_key(b: &[u8]) -> u32
     requires { ⌜ recordLength ≤ length (now b) ⌝ }
-    ensures { λ r. ⌜ r ≡ listsWritten (now (b .entry)) ⌝ }
+    ensures { λ r. ⌜ (Stage.stageNumber Stage.chosen ≤ field (now (b .entry)) phasePlace 1 → r ≡ keyAt (now (b .entry)) (phasePlace + 1)) ⌝ }
 {
-    let m = get(b, HOLD_COUNT_AT, 1) as usize;
-    if !holds::are_written(b, HOLDS_AT, m) {
+    if get(b, PHASE_AT, 1) < CHOSEN {
+        return NO_KEY;
+    }
+    key_at(b, PHASE_AT + 1)
+}
+
+// Whether the first m holds are for different addresses, none of them the chosen one: keys that all differ are enough, and where two are the
+// same the addresses are compared.
+fn are_apart(b: &[u8], m: usize) -> bool
+    requires { ⌜ (recordLength ≤ length (now b)) × Comparable (now b) m ⌝ }
+    ensures { λ r. ⌜ r ≡ apart (now (b .entry)) m ⌝ }
+{
+    if m == 0 {
+        return true;
+    }
+    if all_differ(keys(b, HOLDS_AT, m, chosen_key(b))) {
+        return true;
+    }
+    let list = read_holds(b, HOLDS_AT, m);
+    if !are_different(list, m) {
         return false;
     }
-    let n = get(b, CHILD_COUNT_AT, 1) as usize;
-    children::are_written(b, CHILDREN_AT, n)
+    is_free(read_phase(b, PHASE_AT), list, m)
 }
 
 // Whether the octets of a used record are sound.
@@ -127,21 +97,22 @@ pub fn is_record(b: &[u8]) -> bool
     ensures { λ r. ⌜ r ≡ isRecord (now (b .entry)) ⌝ }
 {
     let pair = get(b, 0, 1);
-    if pair < 1 {
-        return false;
-    }
-    if PAIRS < pair {
+    if (pair < 1) | (PAIRS < pair) {
         return false;
     }
     if !is_phase(b, PHASE_AT) {
         return false;
     }
-    if !is_written(b) {
+    let m = get(b, HOLD_COUNT_AT, 1) as usize;
+    let n = get(b, CHILD_COUNT_AT, 1) as usize;
+    if !counts_fit(get(b, PHASE_AT, 1), m, n) {
         return false;
     }
-    let r = read_record(b);
-    let phase = r.phase;
-    let holds = r.holds;
-    let children = r.children;
-    are_lists(r.time, phase, holds, r.hold_count, children, r.child_count)
+    if !children::are_sound(b, CHILDREN_AT, n) {
+        return false;
+    }
+    if !stand_in_force(b, HOLDS_AT, m, get(b, TIME_AT, 4)) {
+        return false;
+    }
+    are_apart(b, m)
 }

@@ -4,6 +4,7 @@ pub mod Found
 pub mod Lookups
 pub mod Puts
 pub mod Room
+pub mod Seen
 pub mod Slots
 pub mod Splices
 pub mod Stored

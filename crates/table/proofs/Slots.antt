@@ -1,20 +1,20 @@
 -- The laws of records by number.
 use Prim.Native.Nat.{ℕ, _+_, _≤_, _<_}
-use mathlib.Core.Bool.{Bool, true, false, not, _&&_}
+use mathlib.Core.Bool.{true, false, _&&_}
 use mathlib.Core.List.{List}
-use mathlib.Core.Path.{_≡_, refl, sym, ap, _∙_, subst}
+use mathlib.Core.Path.{_≡_, sym, ap, _∙_, subst}
 use native.Mathlib.Numerals.{add-one}
 use native.Mathlib.Omega.{arith}
-use lib.Dec.{eqb, ltb}
+use lib.Dec.{eqb}
 use lib.ListN.{length}
-use borrow.Author.Tests.{eq-eqb, ne-eqb, ltb-true, ltb-false}
+use borrow.Author.Tests.{eq-eqb, ne-eqb}
 use Rattle.octets.specs.Digits.{field}
 use Rattle.octets.specs.Search.{all, least}
-use Rattle.octets.proofs.Search.{and-false, all-fails, each-all, least-bound, least-first, least-found, least-more, least-passes}
+use Rattle.octets.proofs.Search.{and-false, all-fails, least-found, least-more}
 use Rattle.record.specs.Octets.{recordLength}
 use Rattle.record.specs.Sound.{isRecord}
-use Rattle.record.proofs.Sounds.{child-octet, hold-octet, record-lists}
-use Rattle.table.specs.Table.{hasPair, isTable, lacksPair, pairAt, pairOnce, slotSound, tableLength}
+use Rattle.record.proofs.Sounds.{child-octet, hold-octet}
+use Rattle.table.specs.Table.{hasPair, isTable, pairAt, pairOnce, slotSound, tableLength}
 
 -- the first record with a pair, of those before n
 module _ (l : List ℕ) (pair : ℕ) where
@@ -25,32 +25,6 @@ module _ (l : List ℕ) (pair : ℕ) where
   pub pair-more : (i : ℕ) → least i (hasPair l pair) ≡ i → (pairAt l i ≡ pair → ⊥) → least (i + 1) (hasPair l pair) ≡ i + 1
   unfolding hasPair
   pair-more i none h = rw add-one (least-more i (hasPair l pair) none (ne-eqb (pairAt l i) pair h))
-
--- a pair stands once
-module _ (l : List ℕ) (i : ℕ) where
-  pub once-free : pairAt l i ≡ 0 → true ≡ pairOnce l i
-  unfolding pairOnce
-  once-free e = sym (rw (eq-eqb (pairAt l i) 0 e))
-
-  abbrev before : ℕ → Bool
-  before = hasPair l (pairAt l i)
-
-  none-before : (r : ℕ) → r ≡ least i before → eqb r i ≡ all i (lacksPair l (pairAt l i))
-  unfolding lacksPair
-  none-before r e = go (ltb (least i before) i) refl
-    where
-      go : (t : Bool) → ltb (least i before) i ≡ t → eqb r i ≡ all i (lacksPair l (pairAt l i))
-      go true q =
-          let found : least i before < i = ltb-true (least i before) i q in
-          ne-eqb r i (λ z. omega arith) ∙ sym (all-fails i (lacksPair l (pairAt l i)) (least i before) found (ap not (least-passes i before found)))
-      go false q =
-          let bound : least i before ≤ i = least-bound i before in
-          let far : i ≤ least i before = ltb-false (least i before) i q in
-          eq-eqb r i (omega arith) ∙ sym (each-all i (lacksPair l (pairAt l i)) (λ k h. ap not (least-first i before k (omega arith))))
-
-  pub once-used : (pairAt l i ≡ 0 → ⊥) → (r : ℕ) → r ≡ least i before → eqb r i ≡ pairOnce l i
-  unfolding pairOnce
-  once-used h r e = none-before r e ∙ sym (rw (ne-eqb (pairAt l i) 0 h))
 
 -- the whole table
 module _ (l : List ℕ) where
@@ -78,5 +52,5 @@ module _ (l : List ℕ) where
 -- the octets of a sound record can be read
 pub slot-reads : (s t : List ℕ) → s ≡ t → length s ≡ recordLength → isRecord t ≡ true → (recordLength ≤ length s) × (field s 25 1 ≤ 8) × (field s 26 1 ≤ 8)
 slot-reads s t e size sound =
-    let lists = record-lists s (ap isRecord e ∙ sound) in
-    (omega arith, hold-octet s lists, child-octet s lists)
+    let used = ap isRecord e ∙ sound in
+    (omega arith, hold-octet s used, child-octet s used)

@@ -80,6 +80,18 @@ or-false : (b : Bool) → b || false ≡ b
 or-false true = refl
 or-false false = refl
 
+-- the pair of a record that is free or sound
+kept-pair : (s : List ℕ) → Kept s → field s 0 1 ≤ 64
+unfolding isRecord
+kept-pair s kept = go (same s (zeros recordLength)) refl kept
+  where
+    go : (b : Bool) → same s (zeros recordLength) ≡ b → b || isRecord s ≡ true → field s 0 1 ≤ 64
+    go true e h =
+        let none : field s 0 1 ≡ 0 = ap (λ (t : List ℕ). field t 0 1) (same-equal s (zeros recordLength) e) ∙ zeros-pair in
+        omega arith
+    go false e h =
+        leb-true (field s 0 1) 64 (and-right (leb 1 (field s 0 1)) (leb (field s 0 1) 64) (and-left (leb 1 (field s 0 1) && leb (field s 0 1) 64) (lineWritten s) (and-left (leb 1 (field s 0 1) && leb (field s 0 1) 64 && lineWritten s) (lineSound (lineFrom s)) h)))
+
 -- a record without a pair is sound exactly where it is zeros, and one with a pair is not zeros
 module _ (l : List ℕ) (i : ℕ) where
   own-pair : field (slot l i) 0 1 ≡ pairAt l i
@@ -98,17 +110,9 @@ module _ (l : List ℕ) (i : ℕ) where
       go true e = absurd (h (sym own-pair ∙ ap (λ (t : List ℕ). field t 0 1) (same-equal (slot l i) (zeros recordLength) e) ∙ zeros-pair))
       go false e = refl
 
--- the pair of a record that is free or sound
-kept-pair : (s : List ℕ) → Kept s → field s 0 1 ≤ 64
-unfolding isRecord
-kept-pair s kept = go (same s (zeros recordLength)) refl kept
-  where
-    go : (b : Bool) → same s (zeros recordLength) ≡ b → b || isRecord s ≡ true → field s 0 1 ≤ 64
-    go true e h =
-        let none : field s 0 1 ≡ 0 = ap (λ (t : List ℕ). field t 0 1) (same-equal s (zeros recordLength) e) ∙ zeros-pair in
-        omega arith
-    go false e h =
-        leb-true (field s 0 1) 64 (and-right (leb 1 (field s 0 1)) (leb (field s 0 1) 64) (and-left (leb 1 (field s 0 1) && leb (field s 0 1) 64) (lineWritten s) (and-left (leb 1 (field s 0 1) && leb (field s 0 1) 64 && lineWritten s) (lineSound (lineFrom s)) h)))
+  pub sound-pair : slotSound l i ≡ true → pairAt l i ≤ 64
+  unfolding slotSound zerosAt slot
+  sound-pair sound = subst (λ (k : ℕ). k ≤ 64) own-pair (kept-pair (slot l i) sound)
 
 module _ (l : List ℕ) (sound : isTable l ≡ true) where
   -- no pair of a sound table is in two slots

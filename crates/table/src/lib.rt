@@ -3,8 +3,10 @@ use octets::number::get;
 use octets::slice::part;
 use octets::slice::zero;
 use octets::slice::zeros_at;
+use record::PAIRS;
 use record::RECORD;
 use record::Record;
+use record::TIME_AT;
 use record::put_record;
 use record::read_record;
 use record::sound::is_record;
@@ -18,7 +20,7 @@ ghost use Rattle.record.specs.Line.{lineOf, InArrays};
 ghost use Rattle.record.specs.Sound.{isRecord};
 ghost use Rattle.record.specs.Octets.{lineFrom, recordLength, recordOctets};
 ghost use Rattle.table.specs.Laws.{Laws};
-ghost use Rattle.table.specs.Table.{hasPair, isTable, pairAt, pairOnce, recordCount, recordOf, slot, slotSound, tableLength};
+ghost use Rattle.table.specs.Table.{hasPair, isTable, pairAt, recordCount, recordOf, slot, slotSound, tableLength};
 
 // How many records a table has, and how many octets.
 pub const RECORDS: usize = 32;
@@ -28,12 +30,23 @@ pub const TABLE: usize = RECORDS * RECORD;
 // The number that a free record has in the place of a pair.
 pub const FREE_PAIR: u64 = 0;
 
+// A place for each number from that of a free record to the last pair's.
+const PLACES: usize = PAIRS as usize + 1;
+
 // The number of the pair of a record.
 fn pair_at(table: &[u8], i: usize) -> u64
     requires { ⌜ recordLength * i + recordLength ≤ length (now table) ⌝ }
     ensures { λ r. ⌜ r ≡ pairAt (now (table .entry)) i ⌝ }
 {
     get(table, RECORD * i, 1)
+}
+
+// The time in a record's octets.
+pub fn time_at(table: &[u8], i: usize) -> u64
+    requires { ⌜ recordLength * i + recordLength ≤ length (now table) ⌝ }
+    ensures { λ r. ⌜ r ≡ lineFrom (slot (now (table .entry)) i) .time ⌝ }
+{
+    get(table, RECORD * i + TIME_AT, 4)
 }
 
 // The first of n records that has a pair, or n where none has.
@@ -70,18 +83,6 @@ fn is_slot(table: &[u8], i: usize) -> bool
     is_record(part(table, RECORD * i, RECORD))
 }
 
-// Whether a record is free or none before it has its pair.
-fn is_once(table: &[u8], i: usize) -> bool
-    requires { ⌜ recordLength * i + recordLength ≤ length (now table) ⌝ }
-    ensures { λ r. ⌜ r ≡ pairOnce (now (table .entry)) i ⌝ }
-{
-    let pair = pair_at(table, i);
-    if pair == FREE_PAIR {
-        return true;
-    }
-    find(table, i, pair) == i
-}
-
 // Whether a table is sound.
 pub fn is_sound(table: &[u8]) -> bool
     ensures { λ r. ⌜ r ≡ isTable (now (table .entry)) ⌝ }
@@ -89,14 +90,18 @@ pub fn is_sound(table: &[u8]) -> bool
     if table.len() != TABLE {
         return false;
     }
+    let mut seen = [false; PLACES];
     let mut i = 0;
     while i < RECORDS {
         if !is_slot(table, i) {
             return false;
         }
-        if !is_once(table, i) {
+        let pair = pair_at(table, i);
+        let place = pair as usize;
+        if (pair != FREE_PAIR) & seen[place] {
             return false;
         }
+        seen[place] = true;
         i += 1;
     }
     true

@@ -1,11 +1,10 @@
 -- `frame::enter` meets its contract: the tests stand in the order of their numbers.
-use mathlib.Core.Option.{some}
 use mathlib.Core.Path.{refl, sym, ap, _∙_}
 use native.Mathlib.Omega.{arith}
 use borrow.Author.Needs.{needs}
 use borrow.Author.Tests.{le-ltb, lt-ltb}
+use lib.Dec.{ltb}
 use Rattle.table.proofs.Puts.{table-length}
-use Rattle.record.specs.Line.{lineOf}
 use Rattle.rules.proofs.Accepted.{line-range, tenant-range}
 use Rattle.rules.proofs.Found.{line-there, none-there, record-there}
 use Rattle.frame.proofs.Entries.{by-closed, by-first, by-none, by-time, in-range, is-sound}
@@ -41,37 +40,34 @@ returns-2 c =
     let first = found .before .before in
     by-closed _ _ _ _ _ _ _ (first .before .checked .ensures) (first .if1 .left) (none-there _ _ _ (found .before .pair-of .ensures) (found .record-of .ensures .0) (c .before .if2 .taken)) (c .refused2 .ensures)
 
-read-slot-requires : tie.Need-read-slot-requires
-read-slot-requires c κs =
-    let found = c .before in
-    let first = found .before .before in
+time-at-requires : tie.Need-time-at-requires
+time-at-requires c κs =
+    let first = c .before .before .before in
     let a = first .before .before .before .args in
-    let sound = is-sound (a .table .now) (a .tenant) (a .line) (a .short) _ (first .before .checked .ensures) (first .if1 .left) in
-    (omega (arith, table-length (a .table .now) sound, c .if2 .left), record-there (a .table .now) (a .tenant) (a .line) (found .before .pair-of .ensures) (found .record-of .ensures .0) (c .if2 .left) sound)
+    omega (arith, table-length (a .table .now) (is-sound (a .table .now) (a .tenant) (a .line) (a .short) _ (first .before .checked .ensures) (first .if1 .left)), c .if2 .left)
 
 refused-requires-3 : tie.Need-refused-requires-3
 refused-requires-3 c κs = search needs
 
 returns-3 : tie.Need-returns-3
-unfolding lineOf
 returns-3 c =
-    let own = c .before .before .before in
-    let found = own .before .before in
-    let first = found .before .before in
-    let there = line-there _ _ _ (found .before .pair-of .ensures) (found .record-of .ensures .0) (own .before .if2 .left) ∙ ap some (sym (own .read-slot .ensures .0)) in
-    by-time _ _ _ _ _ _ _ (first .before .checked .ensures) (first .if1 .left) (lineOf (own .read-slot .result)) there (lt-ltb _ _ (c .before .if3 .taken)) (c .refused3 .ensures)
-
-returns-4 : tie.Need-returns-4
-unfolding lineOf
-returns-4 c =
     let own = c .before .before in
     let found = own .before .before in
     let first = found .before .before in
+    by-time _ _ _ _ _ _ _ (first .before .checked .ensures) (first .if1 .left) _ (line-there _ _ _ (found .before .pair-of .ensures) (found .record-of .ensures .0) (own .before .if2 .left)) (ap (ltb _) (sym (own .time-at .ensures)) ∙ lt-ltb _ _ (c .before .if3 .taken)) (c .refused3 .ensures)
+
+returns-4 : tie.Need-returns-4
+returns-4 c =
+    let own = c .before in
+    let found = own .before .before in
+    let first = found .before .before in
     let a = first .before .before .before .args in
-    let there = line-there _ _ _ (found .before .pair-of .ensures) (found .record-of .ensures .0) (own .before .if2 .left) ∙ ap some (sym (own .read-slot .ensures .0)) in
     let sound = is-sound (a .table .now) (a .tenant) (a .line) (a .short) _ (first .before .checked .ensures) (first .if1 .left) in
-    by-none _ _ _ _ _ _ _ (first .before .checked .ensures) (first .if1 .left) (lineOf (own .read-slot .result)) there (le-ltb _ _ (c .if3 .left)) refl refl
-    (found .before .pair-of .ensures) (found .record-of .ensures .0) (omega (arith, table-length (a .table .now) sound, own .before .if2 .left)) (own .read-slot .ensures .1)
+    let pair = found .before .pair-of .ensures in
+    let at = found .record-of .ensures .0 in
+    let open-is = own .before .if2 .left in
+    by-none _ _ _ _ _ _ _ (first .before .checked .ensures) (first .if1 .left) (line-there _ _ _ pair at open-is) (ap (ltb _) (sym (own .time-at .ensures)) ∙ le-ltb _ _ (c .if3 .left)) refl
+    pair at (omega (arith, table-length (a .table .now) sound, open-is)) (record-there (a .table .now) (a .tenant) (a .line) pair at open-is sound)
 
 pub enter-spec : {M : Type 1} → statement M
 enter-spec =
@@ -84,7 +80,7 @@ enter-spec =
     record-of-requires
     refused-requires-2
     returns-2
-    read-slot-requires
+    time-at-requires
     refused-requires-3
     returns-3
     returns-4)

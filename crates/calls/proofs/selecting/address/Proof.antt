@@ -19,13 +19,19 @@ returns : tie.Need-returns
 unfolding isShort roomOf leastRoom leastEventRoom eventRoom zeros
 returns c = turned-away _ _ _ (address _) _ _ _ refl (c .before .before .before .enter .ensures) (c .before .if1 .taken) _ _ _ refl refl refl
 
+read-slot-requires : tie.Need-read-slot-requires
+read-slot-requires c κs =
+    let passes = c .before .before .before .enter .ensures .passes (c .before .if1 .left) in
+    (passes .within, passes .used)
+
 address-answer-requires : tie.Need-address-answer-requires
-address-answer-requires c κs = c .before .before .before .enter .ensures .passes (c .before .if1 .left) .in-arrays
+address-answer-requires c κs = c .read-slot .ensures .1
 
 settle-requires : tie.Need-settle-requires
 settle-requires c κs =
     let step = c .before .before in
-    let passes = step .before .before .before .before .enter .ensures .passes (step .before .before .if1 .left) in
+    let first = step .before .before .before in
+    let passes = first .before .before .enter .ensures .passes (first .if1 .left) in
     (passes .at-is, passes .within, step .address-answer .ensures .1)
 
 same-length-2 : tie.Need-same-length-2
@@ -36,8 +42,9 @@ unfolding isShort roomOf leastRoom leastEventRoom eventRoom zeros
 returns-2 c =
     let settle = c .before .before .settle in
     let step = c .before .before .before .before .before in
-    let passes = step .before .before .before .before .enter .ensures .passes (step .before .before .if1 .left) in
-    taken _ _ _ (address _) _ _ _ refl passes (step .address-answer .result) _ _ (step .address-answer .ensures .0) _ _ _ (settle .ensures .0) (settle .ensures .1 .0) (settle .ensures .1 .1)
+    let first = step .before .before .before in
+    let passes = first .before .before .enter .ensures .passes (first .if1 .left) in
+    taken _ _ _ (address _) _ _ _ refl passes (step .before .read-slot .ensures .0) (step .address-answer .result) _ _ (step .address-answer .ensures .0) _ _ _ (settle .ensures .0) (settle .ensures .1 .0) (settle .ensures .1 .1)
 
 pub address-spec : {M : Type 1} → statement M
 address-spec =
@@ -46,6 +53,7 @@ address-spec =
     enter-requires
     same-length
     returns
+    read-slot-requires
     address-answer-requires
     settle-requires
     same-length-2

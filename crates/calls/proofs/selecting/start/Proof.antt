@@ -28,16 +28,20 @@ returns c =
     let first = c .before .before .before .before .before in
     turned-away-named _ _ _ (start _ _ _) _ _ _ refl _ _ _ (first .before .before .enter .ensures) (first .if1 .taken) _ _ _ (away .0) (away .1 .1) (away .1 .0)
 
+read-slot-requires : tie.Need-read-slot-requires
+read-slot-requires c κs =
+    let passes = c .before .before .before .enter .ensures .passes (c .before .if1 .left) in
+    (passes .within, passes .used)
+
 start-requires : tie.Need-start-requires
 start-requires c κs =
-    let first = c .before .before in
-    let passes = first .before .before .enter .ensures .passes (first .if1 .left) in
-    (passes .in-arrays, ltb-false _ _ (passes .buffer-fits))
+    let first = c .before .before .before in
+    (c .before .read-slot .ensures .1, ltb-false _ _ (first .before .before .enter .ensures .passes (first .if1 .left) .buffer-fits))
 
 settle-requires : tie.Need-settle-requires
 settle-requires c κs =
     let step = c .before .before .before .before in
-    let first = step .before .before .before in
+    let first = step .before .before .before .before in
     let passes = first .before .before .enter .ensures .passes (first .if1 .left) in
     (passes .at-is, passes .within, step .start .ensures .1 .1)
 
@@ -52,9 +56,9 @@ unfolding isShort roomOf leastRoom leastEventRoom eventRoom startNumbers
 returns-2 c =
     let settle = c .before .before .settle in
     let step = c .before .before .before .before .before .before .before in
-    let first = step .before .before .before in
+    let first = step .before .before .before .before in
     let passes = first .before .before .enter .ensures .passes (first .if1 .left) in
-    taken-named _ _ _ (start _ _ _) _ _ _ refl _ _ _ passes (step .start .result) _ (step .start .ensures .0) (step .start .ensures .1 .0) _ _ _ (settle .ensures .0) (settle .ensures .1 .0) (settle .ensures .1 .1)
+    taken-named _ _ _ (start _ _ _) _ _ _ refl _ _ _ passes (step .before .before .read-slot .ensures .0) (step .start .result) _ (step .start .ensures .0) (step .start .ensures .1 .0) _ _ _ (settle .ensures .0) (settle .ensures .1 .0) (settle .ensures .1 .1)
 
 pub start-spec : {M : Type 1} → statement M
 start-spec =
@@ -65,6 +69,7 @@ start-spec =
     same-length
     same-length-2
     returns
+    read-slot-requires
     start-requires
     settle-requires
     same-length-3

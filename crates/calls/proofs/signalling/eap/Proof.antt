@@ -19,13 +19,19 @@ returns : tie.Need-returns
 unfolding isShort roomOf leastRoom leastEventRoom eventRoom zeros
 returns c = turned-away-named _ _ _ (eap _) _ _ _ refl _ _ _ (c .before .before .before .enter .ensures) (c .before .if1 .taken) _ _ _ refl refl refl
 
+read-slot-requires : tie.Need-read-slot-requires
+read-slot-requires c κs =
+    let passes = c .before .before .before .enter .ensures .passes (c .before .if1 .left) in
+    (passes .within, passes .used)
+
 eap-packet-requires : tie.Need-eap-packet-requires
-eap-packet-requires c κs = c .before .before .before .enter .ensures .passes (c .before .if1 .left) .in-arrays
+eap-packet-requires c κs = c .read-slot .ensures .1
 
 settle-requires : tie.Need-settle-requires
 settle-requires c κs =
     let step = c .before .before in
-    let passes = step .before .before .before .before .enter .ensures .passes (step .before .before .if1 .left) in
+    let first = step .before .before .before in
+    let passes = first .before .before .enter .ensures .passes (first .if1 .left) in
     (passes .at-is, passes .within, step .eap-packet .ensures .1 .1)
 
 same-length-2 : tie.Need-same-length-2
@@ -36,8 +42,9 @@ unfolding isShort roomOf leastRoom leastEventRoom eventRoom zeros
 returns-2 c =
     let settle = c .before .before .settle in
     let step = c .before .before .before .before .before in
-    let passes = step .before .before .before .before .enter .ensures .passes (step .before .before .if1 .left) in
-    taken-named _ _ _ (eap _) _ _ _ refl _ _ _ passes (step .eap-packet .result) _ (step .eap-packet .ensures .0) (step .eap-packet .ensures .1 .0) _ _ _ (settle .ensures .0) (settle .ensures .1 .0) (settle .ensures .1 .1)
+    let first = step .before .before .before in
+    let passes = first .before .before .enter .ensures .passes (first .if1 .left) in
+    taken-named _ _ _ (eap _) _ _ _ refl _ _ _ passes (step .before .read-slot .ensures .0) (step .eap-packet .result) _ (step .eap-packet .ensures .0) (step .eap-packet .ensures .1 .0) _ _ _ (settle .ensures .0) (settle .ensures .1 .0) (settle .ensures .1 .1)
 
 pub eap-spec : {M : Type 1} → statement M
 eap-spec =
@@ -46,6 +53,7 @@ eap-spec =
     enter-requires
     same-length
     returns
+    read-slot-requires
     eap-packet-requires
     settle-requires
     same-length-2

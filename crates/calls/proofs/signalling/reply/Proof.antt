@@ -28,16 +28,20 @@ returns c =
     let first = c .before .before .before .before .before in
     turned-away _ _ _ (reply _ _ _) _ _ _ refl (first .before .before .enter .ensures) (first .if1 .taken) _ _ _ (away .0) (away .1 .1) (away .1 .0)
 
+read-slot-requires : tie.Need-read-slot-requires
+read-slot-requires c κs =
+    let passes = c .before .before .before .enter .ensures .passes (c .before .if1 .left) in
+    (passes .within, passes .used)
+
 reply-requires : tie.Need-reply-requires
 reply-requires c κs =
-    let first = c .before .before in
-    let passes = first .before .before .enter .ensures .passes (first .if1 .left) in
-    (passes .in-arrays, ltb-false _ _ (passes .buffer-fits))
+    let first = c .before .before .before in
+    (c .before .read-slot .ensures .1, ltb-false _ _ (first .before .before .enter .ensures .passes (first .if1 .left) .buffer-fits))
 
 settle-requires : tie.Need-settle-requires
 settle-requires c κs =
     let step = c .before .before .before .before in
-    let first = step .before .before .before in
+    let first = step .before .before .before .before in
     let passes = first .before .before .enter .ensures .passes (first .if1 .left) in
     (passes .at-is, passes .within, step .reply2 .ensures .1)
 
@@ -52,9 +56,9 @@ unfolding isShort roomOf leastRoom leastEventRoom eventRoom
 returns-2 c =
     let settle = c .before .before .settle in
     let step = c .before .before .before .before .before .before .before in
-    let first = step .before .before .before in
+    let first = step .before .before .before .before in
     let passes = first .before .before .enter .ensures .passes (first .if1 .left) in
-    taken _ _ _ (reply _ _ _) _ _ _ refl passes (step .reply2 .result) _ _ (step .reply2 .ensures .0) _ _ _ (settle .ensures .0) (settle .ensures .1 .0) (settle .ensures .1 .1)
+    taken _ _ _ (reply _ _ _) _ _ _ refl passes (step .before .before .read-slot .ensures .0) (step .reply2 .result) _ _ (step .reply2 .ensures .0) _ _ _ (settle .ensures .0) (settle .ensures .1 .0) (settle .ensures .1 .1)
 
 pub reply-spec : {M : Type 1} → statement M
 reply-spec =
@@ -65,6 +69,7 @@ reply-spec =
     same-length
     same-length-2
     returns
+    read-slot-requires
     reply-requires
     settle-requires
     same-length-3

@@ -1,62 +1,73 @@
--- `octets::slice::zeros_at` meets its contract. The loop's invariant: the bits so far and the octets that are left decide.
-use Prim.Native.Nat.{ℕ, suc, _+_, _-_, _≤_, _<_}
-use mathlib.Core.Bool.{Bool, true, false, _&&_, and-assoc}
+-- `octets::slice::zeros_at` meets its contract. The loop's invariant: the bits are none exactly where the octets passed and the last word are
+-- zeros.
+use Prim.Native.Nat.{ℕ, _+_, _-_, _≤_}
+use mathlib.Core.Bool.{Bool, _&&_, and-assoc, and-comm}
 use mathlib.Core.List.{List}
-use mathlib.Core.Path.{_≡_, refl, sym, ap, _∙_}
+use mathlib.Core.Path.{_≡_, sym, ap, ap₂, _∙_}
 use native.Mathlib.Omega.{arith}
-use native.Mathlib.Numerals.{add-one}
 use lib.Bits.{bitOr}
 use lib.Dec.{eqb}
-use lib.ListN.{length, getD}
-use lib.Seq.{drop-cons}
+use lib.ListN.{length}
 use denote.Ref.{now}
 use borrow.Author.Needs.{needs}
-use Rattle.octets.specs.Part.{part, zeros, same, zerosAt}
+use Rattle.octets.specs.Part.{zerosAt}
 use Rattle.octets.proofs.Ors.{or-none}
+use Rattle.octets.proofs.Zeros.{zeros-done, zeros-between, zeros-overlap}
 use Rattle.octets.proofs.slice.zeros_at.Statement.{statement}
 use Rattle.octets.proofs.slice.zeros_at.Tie as tie
 
 abbrev Inv-loop : tie.InvT-loop
-Inv-loop s at n end bits₀ i₀ bits i = (at ≤ i) × (i ≤ end) × (zerosAt s at n ≡ eqb bits 0 && zerosAt s i (end - i))
+Inv-loop s at n last bits₀ i₀ bits i = (at ≤ i) × (i ≤ at + n) × (eqb bits 0 ≡ zerosAt s at (i - at) && zerosAt s last 8)
 
 abbrev μ-loop : tie.MeasureT-loop
-μ-loop s at n end bits₀ i₀ bits i = end - i
+μ-loop s at n last bits₀ i₀ bits i = at + n - i
 
--- what stands from i to the end
-module _ (l : List ℕ) (i end : ℕ) where
-  -- the next octet decides first
-  next : end ≤ length l → i < end → zerosAt l i (end - i) ≡ eqb (getD l i 0) 0 && zerosAt l (i + 1) (end - (i + 1))
-  unfolding zerosAt part zeros same
-  next within h =
-      let more : end - i ≡ suc (end - (i + 1)) = omega arith in
-      rw (more, drop-cons l i 0 (omega arith), add-one)
+-- the bits of the octets from a place to i and of the last word
+module _ (l : List ℕ) (at last i : ℕ) where
+  -- none is passed yet
+  begun : (b : Bool) → i ≤ at → b ≡ zerosAt l last 8 → b ≡ zerosAt l at (i - at) && zerosAt l last 8
+  begun b h e = rw (zeros-done l at i h) e
 
-  -- none is left
-  done : end ≤ i → zerosAt l i (end - i) ≡ true
-  unfolding zerosAt part zeros same
-  done h =
-      let none : end - i ≡ 0 = omega arith in
-      rw none
+  -- one word more
+  turn : (b w : ℕ) → at ≤ i → i ≤ length l → eqb b 0 ≡ zerosAt l at (i - at) && zerosAt l last 8 → eqb w 0 ≡ zerosAt l i 8
+      → eqb (bitOr b w) 0 ≡ zerosAt l at (i + 8 - at) && zerosAt l last 8
+  turn b w p q e f =
+      let eight : i + 8 - i ≡ 8 = omega arith in
+      or-none b w ∙ ap₂ (λ (s t : Bool). s && t) e f ∙ swap (zerosAt l at (i - at)) (zerosAt l last 8) (zerosAt l i 8)
+      ∙ ap (λ (t : Bool). t && zerosAt l last 8) (sym (zeros-between l at i (i + 8) p (omega arith) q ∙ ap (λ (k : ℕ). zerosAt l at (i - at) && zerosAt l i k) eight))
+    where
+      swap : (s t u : Bool) → (s && t) && u ≡ (s && u) && t
+      swap s t u = and-assoc s t u ∙ ap (λ (v : Bool). s && v) (and-comm t u) ∙ sym (and-assoc s u t)
 
--- one octet more
-taken : (b x : ℕ) (rest : Bool) → eqb b 0 && (eqb x 0 && rest) ≡ eqb (bitOr b x) 0 && rest
-taken b x rest = sym (and-assoc (eqb b 0) (eqb x 0) rest) ∙ ap (λ (t : Bool). t && rest) (sym (or-none b x))
+  -- the last word is reached
+  ended : (n : ℕ) → at ≤ last → last ≤ i → i ≤ at + n → at + n ≤ length l → last + 8 ≡ at + n → zerosAt l at (i - at) && zerosAt l last 8 ≡ zerosAt l at n
+  ended n p q r h e =
+      let whole : at + n - at ≡ n = omega arith in
+      let eight : at + n - last ≡ 8 = omega arith in
+      rw (whole, eight) at (zeros-overlap l at last i (at + n) p q r (omega arith))
 
-last : (b : Bool) → b && true ≡ b
-last true = refl
-last false = refl
+zeros-by-octets-requires : tie.Need-zeros-by-octets-requires Inv-loop μ-loop
+zeros-by-octets-requires c κs = search needs
 
-add-end : tie.Need-add-end Inv-loop μ-loop
-add-end c = search needs
+returns : tie.Need-returns Inv-loop μ-loop
+returns c = search needs
+
+add-last : tie.Need-add-last Inv-loop μ-loop
+add-last c = search needs
+
+sub-last : tie.Need-sub-last Inv-loop μ-loop
+sub-last c = search needs
+
+word-requires : tie.Need-word-requires Inv-loop μ-loop
+word-requires c κs = search needs
 
 loop-holds : tie.Need-loop-holds Inv-loop μ-loop
 loop-holds c =
-    let a = c .args in
-    let all : a .at + a .n - a .at ≡ a .n = omega arith in
-    (search needs, search needs, ap (zerosAt (now (a .s)) (a .at)) (sym all))
+    let a = c .before .before .before .args in
+    (search needs, search needs, begun (now (a .s)) (a .at) (a .at + a .n - 8) (a .at) (eqb (c .word .result) 0) (omega arith) (c .word .ensures))
 
-shared-slice-read-bits : tie.Need-shared-slice-read-bits Inv-loop μ-loop
-shared-slice-read-bits c = search needs
+word-requires-2 : tie.Need-word-requires-2 Inv-loop μ-loop
+word-requires-2 c κs = search needs
 
 add-i : tie.Need-add-i Inv-loop μ-loop
 add-i c = search needs
@@ -66,17 +77,15 @@ loop-less c = search needs
 
 loop-again : tie.Need-loop-again Inv-loop μ-loop
 loop-again c =
-    let a = c .before .before .before .args in
+    let a = c .before .before .before .before .before .before .args in
     let at-loop = c .before .before .loop in
-    let left = next (now (a .s)) (at-loop .i) (a .at + a .n) (omega arith) (c .before .loop-test .taken) in
-    (search needs, search needs, at-loop .inv .2 ∙ ap (λ (t : Bool). eqb (at-loop .bits) 0 && t) left ∙ taken (at-loop .bits) (getD (now (a .s)) (at-loop .i) 0) _)
+    (search needs, search needs, turn (now (a .s)) (a .at) (a .at + a .n - 8) (at-loop .i) (at-loop .bits) (c .word2 .result) (at-loop .inv .0) (omega arith) (at-loop .inv .2) (c .word2 .ensures))
 
-returns : tie.Need-returns Inv-loop μ-loop
-returns c =
-    let a = c .before .before .args in
+returns-2 : tie.Need-returns-2 Inv-loop μ-loop
+returns-2 c =
+    let a = c .before .before .before .before .before .args in
     let at-loop = c .before .loop in
-    let none-left = done (now (a .s)) (at-loop .i) (a .at + a .n) (c .loop-test .left) in
-    sym (at-loop .inv .2 ∙ ap (λ (t : Bool). eqb (at-loop .bits) 0 && t) none-left ∙ last (eqb (at-loop .bits) 0))
+    at-loop .inv .2 ∙ ended (now (a .s)) (a .at) (a .at + a .n - 8) (at-loop .i) (a .n) (omega arith) (c .loop-test .left) (at-loop .inv .1) (omega arith) (omega arith)
 
 pub zeros-at-spec : {M : Type 1} → statement M
 zeros-at-spec =
@@ -84,10 +93,14 @@ zeros-at-spec =
     (tie.spec
     Inv-loop
     μ-loop
-    add-end
+    zeros-by-octets-requires
+    returns
+    add-last
+    sub-last
+    word-requires
     loop-holds
-    shared-slice-read-bits
+    word-requires-2
     add-i
     loop-less
     loop-again
-    returns)
+    returns-2)
