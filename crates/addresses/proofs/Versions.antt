@@ -1,6 +1,6 @@
 -- What the version at a place decides, and what is written as halves.
 use Prim.Native.Nat.{ℕ, _+_, _*_, _^_, _≤_, _<_}
-use mathlib.Core.Bool.{Bool, _&&_, _||_}
+use mathlib.Core.Bool.{Bool, true, false, _&&_}
 use mathlib.Core.List.{List, _++_, append-assoc, append-nil}
 use mathlib.Core.Path.{_≡_, sym, ap, ap₂, _∙_, subst}
 use native.Mathlib.Omega.{arith}
@@ -33,12 +33,17 @@ module _ (l : List ℕ) (at v : ℕ) (of : v ≡ versionFrom l at) where
   address-6 h fits x y e f small =
       rw (ne-eqb (versionFrom l at) 4 (subst (λ (k : ℕ). k ≡ 4 → ⊥) of h), halves l at fits x y e f) (sym (ap₂ V6 (digits-div x small) (digits-mod x small)))
 
-  -- an address of version 6 has no octets behind it, and one of version 4 has zeros
-  pub versions : (z : Bool) → z ≡ zerosAt l (at + 5) 12 → eqb v 6 || (eqb v 4 && z) ≡ isAddress l at
+  -- an address of version 6 has no octets behind it
+  pub version-6 : v ≡ 6 → true ≡ isAddress l at
   unfolding isAddress isVersion widthOf zerosAt same part zeros
-  versions z e =
-      rw (e, of)
-      (either (versionFrom l at) 4 (λ q. rw q) (λ n. either (versionFrom l at) 6 (λ q. rw q) (λ m. rw (ne-eqb (versionFrom l at) 4 n, ne-eqb (versionFrom l at) 6 m))))
+  version-6 e = rw (sym of ∙ e)
+
+  -- one of version 4 has zeros, and there is no other
+  pub version-4 : (v ≡ 6 → ⊥) → (z : Bool) → z ≡ zerosAt l (at + 5) 12 → eqb v 4 && z ≡ isAddress l at
+  unfolding isAddress isVersion widthOf
+  version-4 not-6 z e =
+      let other : eqb (versionFrom l at) 6 ≡ false = ne-eqb (versionFrom l at) 6 (subst (λ (k : ℕ). k ≡ 6 → ⊥) of not-6) in
+      rw (e, of, other) (either (versionFrom l at) 4 (λ q. rw q) (λ n. rw (ne-eqb (versionFrom l at) 4 n)))
 
 -- two halves are written as the number that they are
 pub halves-wrote : {l m : List ℕ} {at : ℕ} (x y : ℕ) → y < 256 ^ 8 → Wrote l at (be 1 6 ++ be 8 x ++ be 8 y) m → Wrote l at (addressOctets (V6 x y)) m

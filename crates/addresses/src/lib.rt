@@ -31,8 +31,10 @@ pub fn is_address(list: &[u8], at: usize) -> bool
     ensures { λ r. ⌜ r ≡ isAddress (now (list .entry)) at ⌝ }
 {
     let version = get(list, at, 1);
-    let rest = zeros_at(list, at + 5, 12);
-    (version == 6) | ((version == 4) & rest)
+    if version == 6 {
+        return true;
+    }
+    (version == 4) & zeros_at(list, at + 5, 12)
 }
 
 // The key of the address at a place.

@@ -57,7 +57,7 @@ fn refusal_of(text: Parsed, facts: MaybeFacts) -> u64
     0
 }
 
-// LentIs a lent text once, unless it is too long.
+// Reads a lent text once, unless it is too long.
 pub(crate) fn read(text: &[u8], facts: MaybeFacts) -> Lent
     ensures { λ r. ⌜ LentIs r (now (text .entry)) (factsOption facts) ⌝ }
 {

@@ -2,7 +2,6 @@
 ghost use mathlib.Core.Bool.{true, cond};
 ghost use mathlib.Core.Path.{_≡_};
 ghost use Prim.Native.Nat.{_+_, _≤_, _<_};
-ghost use lib.ListN.{getD};
 ghost use Rattle.octets.specs.Differ.{differsOn, places, AllDiffer, Twice};
 ghost use Rattle.octets.specs.Search.{all};
 

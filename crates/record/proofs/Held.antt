@@ -1,17 +1,17 @@
 -- Addresses that are told apart by their keys.
 use Prim.Native.Nat.{ℕ, _+_, _*_, _≤_, _<_}
-use mathlib.Core.Bool.{Bool, true, false, not, _&&_, _||_}
+use mathlib.Core.Bool.{Bool, true, false, not}
 use mathlib.Core.List.{List, []}
 use mathlib.Core.Option.{Option, none, some}
 use mathlib.Core.Path.{_≡_, refl, sym, ap, _∙_}
 use native.Mathlib.Omega.{arith}
 use lib.Dec.{leb}
-use lib.ListN.{length, getD}
+use lib.ListN.{length}
 use borrow.Author.Tests.{leb-true, ne-eqb}
 use Rattle.octets.specs.Differ.{AllDiffer}
 use Rattle.octets.specs.Digits.{field}
 use Rattle.octets.specs.Row.{row}
-use Rattle.octets.specs.Search.{all, anyOf, distinct}
+use Rattle.octets.specs.Search.{anyOf, distinct}
 use Rattle.octets.proofs.Apart.{none-alike, row-distinct}
 use Rattle.octets.proofs.Rows.{map-row}
 use Rattle.octets.proofs.Search.{all-each, and-true, lower, or-other}

@@ -1,5 +1,5 @@
 -- A sound record, part by part: what follows from it, and what it follows from.
-use Prim.Native.Nat.{ℕ, _+_, _-_, _*_, _≤_, _<_}
+use Prim.Native.Nat.{ℕ, _-_, _≤_, _<_}
 use mathlib.Core.Bool.{Bool, true, false, false≢true, _&&_, _||_}
 use mathlib.Core.List.{List}
 use mathlib.Core.Path.{_≡_, refl, sym, ap, _∙_, subst}
@@ -8,17 +8,16 @@ use lib.Dec.{eqb, leb, ltb}
 use lib.ListN.{length}
 use borrow.Author.Tests.{le-leb, leb-true, lt-leb, le-ltb, ltb-false, ltb-true, ne-eqb}
 use Rattle.octets.specs.Digits.{field}
-use Rattle.octets.specs.Part.{zerosAt}
-use Rattle.octets.specs.Search.{all, allOf}
+use Rattle.octets.specs.Search.{allOf}
 use Rattle.octets.proofs.Rows.{length-row}
 use Rattle.octets.proofs.Search.{and-left, and-right, and-true, either, or-left, or-other, or-right}
 use Rattle.address.specs.declared.Hold.{Hold}
 use Rattle.children.specs.Children.{childFits, childIn, childrenFrom, childrenWritten, spisDiffer}
 use Rattle.children.specs.declared.Child.{Child}
-use Rattle.holds.specs.Holds.{different, endsAfter, hasAddress, holdIn, holdsFrom, holdsWritten}
+use Rattle.holds.specs.Holds.{different, endsAfter, holdIn, holdsFrom, holdsWritten}
 use Rattle.phase.specs.Chosen.{chosen}
 use Rattle.phase.specs.Phase.{isPhase, phaseFits, phaseFrom, phaseWritten}
-use Rattle.phase.specs.Stage.{isIn, stageNumber, stageOf}
+use Rattle.phase.specs.Stage.{isIn}
 use Rattle.phase.specs.Stage as Stage
 use Rattle.phase.specs.declared.Phase.{Phase}
 use Rattle.phase.proofs.Stood.{stage-at}

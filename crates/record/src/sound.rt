@@ -47,7 +47,10 @@ const NO_KEY: u32 = 7;
 fn counts_fit(stage: u64, m: usize, n: usize) -> bool
     ensures { λ r. ⌜ r ≡ countsFit stage m n ⌝ }
 {
-    ((stage == IDLE) | (m <= BUSY_HOLDS)) & ((stage == LIVE) | (n == 0))
+    if (BUSY_HOLDS < m) & (stage != IDLE) {
+        return false;
+    }
+    (stage == LIVE) | (n == 0)
 }
 
 // Whether none of the first n holds is the chosen address.

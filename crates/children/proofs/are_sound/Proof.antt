@@ -2,20 +2,36 @@
 use Prim.Native.Nat.{ℕ, _+_, _-_, _*_, _≤_}
 use mathlib.Core.Bool.{Bool, true, false, _&&_}
 use mathlib.Core.List.{List}
-use mathlib.Core.Path.{_≡_, sym, _∙_}
+use mathlib.Core.Path.{_≡_, refl, sym, ap, _∙_}
+use native.Mathlib.Nat.{add-zero}
 use lib.Dec.{leb}
 use borrow.Author.Needs.{needs}
 use borrow.Author.Tests.{leb-true, not-false, not-true}
 use Rattle.octets.specs.Part.{zerosAt}
-use Rattle.octets.specs.Search.{allOf}
+use Rattle.octets.specs.Row.{row}
+use Rattle.octets.specs.Search.{allOf, anyOf, distinct}
 use Rattle.octets.proofs.Search.{and-left}
-use Rattle.children.specs.Children.{childFits, childrenFrom, childrenWritten, spisDiffer}
+use Rattle.children.specs.declared.Child.{Child}
+use Rattle.children.specs.Children.{childFits, childFrom, childIn, childrenFrom, childrenWritten, spisDiffer}
 use Rattle.children.proofs.are_sound.Statement.{statement}
 use Rattle.children.proofs.are_sound.Tie as tie
 
 module _ (l : List ℕ) (at n : ℕ) where
   abbrev Sound : Bool
   Sound = childrenWritten l at n && allOf childFits (childrenFrom l at n) && spisDiffer (childrenFrom l at n)
+
+  -- one child
+  lone : n ≡ 1 → (c : Child) → c ≡ childFrom l at → (r : Bool) → r ≡ childFits c → (z : Bool) → z ≡ zerosAt l (at + 5) 35 → r && z ≡ Sound
+  unfolding childrenWritten childrenFrom childIn row allOf spisDiffer distinct anyOf
+  lone e c read r fits z zeros =
+      let own : r ≡ childFits (childFrom l (at + 5 * 0)) = fits ∙ ap childFits (read ∙ ap (childFrom l) (sym (add-zero at))) in
+      rw (e, zeros, own) (turned (childFits (childFrom l (at + 5 * 0))) (zerosAt l (at + 5) 35))
+    where
+      turned : (a b : Bool) → a && b ≡ (b && (a && true)) && true
+      turned true true = refl
+      turned true false = refl
+      turned false true = refl
+      turned false false = refl
 
   few : childrenWritten l at n ≡ true → n ≤ 8
   unfolding childrenWritten
@@ -31,28 +47,58 @@ module _ (l : List ℕ) (at n : ℕ) where
     by-spis : allOf childFits (childrenFrom l at n) ≡ true → spisDiffer (childrenFrom l at n) ≡ Sound
     by-spis e = sym (rw (written, e))
 
+read-child-requires : tie.Need-read-child-requires
+read-child-requires c κs = search needs
+
+child-fits-requires : tie.Need-child-fits-requires
+child-fits-requires c κs = search needs
+
+add-zeros-at : tie.Need-add-zeros-at
+add-zeros-at c = search needs
+
+sub-zeros-at : tie.Need-sub-zeros-at
+sub-zeros-at c = search needs
+
+zeros-at-requires : tie.Need-zeros-at-requires
+zeros-at-requires c κs = search needs
+
+returns : tie.Need-returns
+returns c = lone _ _ _ (c .before .before .before .if1 .taken) _ (c .before .before .read-child .ensures) _ (c .before .child-fits .ensures) _ (c .zeros-at .ensures)
+
 are-written-requires : tie.Need-are-written-requires
 are-written-requires c κs = search needs
 
-returns : tie.Need-returns
-returns c = unwritten _ _ _ (sym (c .before .are-written .ensures) ∙ not-true _ (c .if1 .taken))
+returns-2 : tie.Need-returns-2
+returns-2 c = unwritten _ _ _ (sym (c .before .are-written .ensures) ∙ not-true _ (c .if2 .taken))
 
 fit-at-requires : tie.Need-fit-at-requires
-fit-at-requires c κs = (c .before .before .before .pre, few _ _ _ (sym (c .before .are-written .ensures) ∙ not-false _ (c .if1 .left)))
+fit-at-requires c κs = (c .before .before .before .before .pre, few _ _ _ (sym (c .before .are-written .ensures) ∙ not-false _ (c .if2 .left)))
 
-returns-2 : tie.Need-returns-2
-returns-2 c = unfit _ _ _ (sym (c .before .before .before .are-written .ensures) ∙ not-false _ (c .before .before .if1 .left)) (sym (c .before .fit-at .ensures) ∙ not-true _ (c .if2 .taken))
+returns-3 : tie.Need-returns-3
+returns-3 c = unfit _ _ _ (sym (c .before .before .before .are-written .ensures) ∙ not-false _ (c .before .before .if2 .left)) (sym (c .before .fit-at .ensures) ∙ not-true _ (c .if3 .taken))
 
 differ-at-requires : tie.Need-differ-at-requires
 differ-at-requires c κs =
-    (c .before .before .before .before .before .pre, few _ _ _ (sym (c .before .before .before .are-written .ensures) ∙ not-false _ (c .before .before .if1 .left)))
+    (c .before .before .before .before .before .before .pre, few _ _ _ (sym (c .before .before .before .are-written .ensures) ∙ not-false _ (c .before .before .if2 .left)))
 
-returns-3 : tie.Need-returns-3
-returns-3 c =
+returns-4 : tie.Need-returns-4
+returns-4 c =
     c .differ-at .ensures
-    ∙ by-spis _ _ _ (sym (c .before .before .before .before .are-written .ensures) ∙ not-false _ (c .before .before .before .if1 .left)) (sym (c .before .before .fit-at .ensures) ∙ not-false _ (c .before .if2 .left))
+    ∙ by-spis _ _ _ (sym (c .before .before .before .before .are-written .ensures) ∙ not-false _ (c .before .before .before .if2 .left)) (sym (c .before .before .fit-at .ensures) ∙ not-false _ (c .before .if3 .left))
 
 pub are-sound-spec : {M : Type 1} → statement M
 are-sound-spec =
     tie.close
-    (tie.spec are-written-requires returns fit-at-requires returns-2 differ-at-requires returns-3)
+    (tie.spec
+    read-child-requires
+    child-fits-requires
+    add-zeros-at
+    sub-zeros-at
+    zeros-at-requires
+    returns
+    are-written-requires
+    returns-2
+    fit-at-requires
+    returns-3
+    differ-at-requires
+    returns-4)

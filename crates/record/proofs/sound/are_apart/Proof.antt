@@ -1,6 +1,5 @@
 -- `record::sound::are_apart` meets its contract: by the keys where all of them differ, else address by address.
-use mathlib.Core.Bool.{false}
-use mathlib.Core.Path.{_≡_, sym, ap, ap₂, _∙_}
+use mathlib.Core.Path.{sym, ap, ap₂, _∙_}
 use borrow.Author.Needs.{needs}
 use borrow.Author.Tests.{not-false, not-true}
 use Rattle.address.specs.Address.{heldAddresses}
