@@ -9,7 +9,7 @@ work=$(mktemp -d) || exit 2
 trap 'rm -rf "$work"' EXIT
 
 archive=target/staticlib/libscaltrovina.a
-prefix="$work/a prefix"
+prefix="$work/a & b|c\\d"
 strict=(-Wall -Wextra -Wpedantic -Werror)
 passed=0
 failed=0
@@ -34,7 +34,7 @@ archive_is_built() {
 }
 
 header_stands_alone() { # COMPILER STANDARD SUFFIX
-    echo '#include <scaltrovina.h>' >"$work/header.$3"
+    echo '#include <scaltrovina.h>' >"$work/header.$3" || return 1
     "$1" "-std=$2" "${strict[@]}" -Iinclude -c -o "$work/header.o" "$work/header.$3"
 }
 
@@ -86,8 +86,7 @@ END
 program_runs() { # COMPILER STANDARD SUFFIX
     local flags version said
     flags=$(package --cflags --libs --static) && version=$(package --modversion) && [ -n "$version" ] || return 1
-    eval "flags=($flags)"
-    write_program "$work/program.$3"
+    eval "flags=($flags)" && write_program "$work/program.$3" || return 1
     (cd "$work" && "$1" "-std=$2" "${strict[@]}" -o program "program.$3" "${flags[@]}") && said=$("$work/program") || return 1
     [ "$said" = "$version" ] || { echo "the program says '$said', the package '$version'"; return 1; }
 }
@@ -95,17 +94,23 @@ program_runs() { # COMPILER STANDARD SUFFIX
 # The global symbols of the archive are the calls of the header, functions all of them.
 header_is_defined() {
     nm -g --defined-only "$archive" >"$work/symbols" || return 1
-    awk 'NF == 3 { print $2, $3 }' "$work/symbols" | sort >"$work/defined"
+    awk 'NF == 3 { print $2, $3 }' "$work/symbols" | sort >"$work/defined" || return 1
     sed -nE 's/^uint64_t (scal_[a-z_]+)\(.*/T \1/p' include/scaltrovina.h | sort | diff - "$work/defined"
 }
 
 # What no member of the archive defines is one of three functions of the C library.
 rest_is_defined() {
     nm -g --defined-only "$archive" >"$work/symbols" && nm -u "$archive" >"$work/wanted" || return 1
-    { awk 'NF == 3 { print $3 }' "$work/symbols" && printf '%s\n' memcpy memmove memset; } | sort -u >"$work/defined"
-    awk 'NF == 2 { print $2 }' "$work/wanted" | sort -u | comm -23 - "$work/defined" >"$work/undefined"
+    { awk 'NF == 3 { print $3 }' "$work/symbols" && printf '%s\n' memcpy memmove memset; } | sort -u >"$work/defined" || return 1
+    awk 'NF == 2 { print $2 }' "$work/wanted" | sort -u | comm -23 - "$work/defined" >"$work/undefined" || return 1
     cat "$work/undefined"
     [ ! -s "$work/undefined" ]
+}
+
+# The comparison of bench.c, without its times.
+twin_agrees() {
+    "${CC:-cc}" -std=c99 "${strict[@]}" -O3 -Iinclude -o "$work/bench" tests/bench/bench.c tests/bench/twin.c "$archive" &&
+        "$work/bench" --rounds 0
 }
 
 # Rust's installer puts cargo into a folder that a plain PATH may not have.
@@ -117,12 +122,9 @@ rust() { # COMMAND FOLDER ARGUMENT..
     CARGO_TARGET_DIR="$PWD/target/cargo" cargo "$command" --offline -q --manifest-path "$folder/Cargo.toml" "$@"
 }
 
-# What the comparison counted is shown below its line.
+# What the comparison says is shown below its line, agreed or not.
 programs_agree() {
     rust run tests/compare --release >"$work/compared"
-    local status=$?
-    [ "$status" -eq 0 ] || cat "$work/compared"
-    return "$status"
 }
 
 check 'the archive is proved and built' archive_is_built
@@ -135,10 +137,11 @@ check 'the archive defines the calls of the header and nothing else' header_is_d
 check 'the archive needs memcpy, memmove and memset at most' rest_is_defined
 check 'the fields and enumerations of the header have their numbers' names_have_their_numbers
 check 'the example is built in strict C99 and says what examples/line.out has' example_says_its_text
-check 'an empty prefix with a blank in its name is filled by make install' prefix_is_filled
+check 'an empty prefix with a blank, &, | and \ in its name is filled by make install' prefix_is_filled
 check 'a staged install keeps its prefix' stage_is_filled
 check 'a C program runs with the flags of pkg-config' program_runs "${CC:-cc}" c99 c
 check 'a C++ program runs with the flags of pkg-config' program_runs "${CXX:-c++}" c++11 cc
+check 'the twin in C answers as the library does' twin_agrees
 check 'the second program passes its own tests' rust test reference
 check 'the library and the second program agree' programs_agree
 sed 's/^/    /' "$work/compared"

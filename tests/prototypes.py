@@ -133,7 +133,7 @@ def source_calls(folder):
     """The parameters of each exported function."""
     calls = {}
     for path in sorted(folder.rglob('*.rt')):
-        text = re.sub(r'//.*', '', path.read_text())
+        text = re.sub(r'//.*', '', path.read_text(encoding='utf-8'))
         exported = EXPORTED.findall(text)
         if len(exported) != max(text.count('#[no_mangle]'), text.count('extern "C"')):
             raise Unclear(f'{path.name}: an exported function is not of the form #[no_mangle] pub extern "C" fn .. -> u64')
@@ -146,7 +146,7 @@ def definitions(folder):
     """The named numbers under specs/, as they are written."""
     found = {}
     for path in sorted(folder.glob('*/specs/*.antt')):
-        for name, written in re.findall(r'^abbrev pub (\w+) : ℕ\n\1 = (.+)$', path.read_text(), flags=re.M):
+        for name, written in re.findall(r'^abbrev pub (\w+) : ℕ\n\1 = (.+)$', path.read_text(encoding='utf-8'), flags=re.M):
             if found.setdefault(name, written) != written:
                 raise Unclear(f'{path.name}: {name} is defined twice')
     return found
@@ -188,7 +188,7 @@ def bound_differences(bounds, found):
 
 
 def main():
-    header = (ROOT / 'include/scaltrovina.h').read_text()
+    header = (ROOT / 'include/scaltrovina.h').read_text(encoding='utf-8')
     try:
         calls, bounds = header_calls(header), header_bounds(header)
         exported, found = source_calls(ROOT / 'crates/scaltrovina/src'), definitions(ROOT / 'crates')

@@ -70,8 +70,8 @@ pub(crate) fn answer(outcome: Outcome, room: usize) -> Answer {
     Answer { refusal, numbers, part: said.part, buffer: buffer(said.written, room) }
 }
 
-/// The answer buffer whole: the written octets, then zeros; of a buffer over 16 MiB, the zeros past that are left out.
+/// The answer buffer whole: the written octets, then zeros.
 pub(crate) fn buffer(mut written: Vec<u8>, room: usize) -> Vec<u8> {
-    written.resize(room.min(1 << 24), 0);
+    written.resize(room, 0);
     written
 }

@@ -102,7 +102,7 @@ impl Config {
     }
 
     /// Provisioned means that the text has a `node` record or at least one `plmn` record.
-    pub(crate) fn is_provisioned(&self) -> bool {
+    fn is_provisioned(&self) -> bool {
         self.node.is_some() || !self.preferred.is_empty()
     }
 

@@ -37,7 +37,7 @@ impl Hold {
     pub(crate) fn set(address: Address, time: u64, timer: Timer) -> Option<Hold> {
         match timer {
             Timer::NoHold => None,
-            Timer::Seconds(seconds) => Some(Hold { address, until: Some(time.saturating_add(seconds)) }),
+            Timer::Seconds(seconds) => Some(Hold { address, until: Some(time + seconds) }),
             Timer::Deactivated => Some(Hold { address, until: None }),
         }
     }

@@ -49,13 +49,14 @@ impl Facts {
     }
 }
 
-/// Start: S1 stops without a place, S2 serves home, S3 asks a registered and unbarred PLMN with a `plmn` record, S4 the country.
+/// Start: S1 stops without a place, S2 serves home, S3 asks a registered and unbarred PLMN with a `plmn` record, S4 the country. That
+/// record makes the text of S3 provisioned.
 pub(crate) fn at_start(facts: &Facts, config: &Config, holds: &[Hold]) -> Accepted {
     match facts.place {
         Place::Unknown => stop(1),
         Place::Home => at_home(facts, config, holds),
         Place::Abroad { mcc } => {
-            let registered = facts.registered_away_from(config.home).filter(|_| config.is_provisioned());
+            let registered = facts.registered_away_from(config.home);
             let country_name = || format!("n3iwf.5gc.mcc{mcc:03}.visited-country.pub.3gppnetwork.org");
             let known = config.best(|plmn| registered == Some(plmn));
             known.map_or_else(|| ask_built(Action::AskCountry, country_name()), ask_operator)

@@ -1,15 +1,15 @@
 /*
- * bench.c: sees that the library and its twin answer alike, and then times each exported call of both. From the repository's folder:
+ * bench.c: sees that the library and its twin answer alike, and then times each exported call of both. `make bench` builds and runs it;
+ * the program is
  *
- *     cc -std=c99 -O3 -Iinclude -o target/bench tests/bench/bench.c tests/bench/twin.c target/staticlib/libscaltrovina.a
- *     target/bench [--csv] [--calls N] [--rounds N] [--seed N] [--only ROW] [--table TABLE]
+ *     target/bench/bench [--csv] [--once] [--calls N] [--rounds N] [--seed N] [--only ROW] [--table TABLE]
  *
  * First come N random calls on random histories: refusal number, numbers, answer buffer and table must be the same octets after each, and
- * the first difference ends the program. Then each call is timed on four tables, accepted and in the phase that allows it; the row
- * 'soundness' is a call that the tenant's number refuses right behind the test of the table. A row has the nanoseconds of a call of the
- * library, those of the twin, and the first divided by the second. On both sides they include the memcpy of one record that restores the
- * table, some 5 ns. --csv prints the rows alone, for plot.py. With --once each timed call is made once on each side and nothing is timed,
- * for count.sh.
+ * the first difference ends the program. With --rounds 0 that is all. Then each call is timed on four tables, accepted and in the phase
+ * that allows it; the row 'soundness' is a call that the tenant's number refuses right behind the test of the table. A row has the
+ * nanoseconds of a call of the library, those of the twin, and the first divided by the second. On both sides they include the memcpy of
+ * one record that restores the table, some 5 ns. --csv prints the rows alone, for plot.py. With --once each timed call is made once on
+ * each side and nothing is timed, for count.sh.
  */
 #define _POSIX_C_SOURCE 199309L
 
@@ -52,7 +52,7 @@ enum {
 };
 
 /* Rooms with octets behind the longest slice that is lent, so that a call that writes too far is seen. */
-enum { TABLE_ROOM = 8192, BUFFER_ROOM = 4096, SLICE_ROOM = 4096 };
+enum { TABLE_ROOM = 8192, BUFFER_ROOM = 4096, SLICE_ROOM = 8192 };
 
 /* ---- One call on either side ---- */
 
@@ -96,7 +96,8 @@ struct side {
 static const struct side library = SIDE(scal), twin = SIDE(twin);
 
 /* Each of these functions moves the code of the twin and of the library behind it by 16 octets. A small loop's speed depends on where it
- * lies, so that the times to believe are the best of four programs, with PLACEMENT 0 to 3; plot.py puts their rows together. */
+ * lies, so that the times to believe are the best of four programs, with PLACEMENT 0 to 3: `make speed` runs them, and plot.py puts their
+ * rows together. */
 #ifndef PLACEMENT
 #define PLACEMENT 0
 #endif
@@ -1030,20 +1031,39 @@ static void make_once(const struct row *row, const struct shape *shape, const ch
 
 /* ---- The program ---- */
 
-static uint64_t number_of(const char *text)
+/* What stands behind an option. */
+static const char *value_of(char **option)
 {
-    char *end;
-    uint64_t number = text == NULL ? 0 : strtoull(text, &end, 10);
+    if (option[1] == NULL)
+        fail("a value is wanted behind %s", option[0]);
+    return option[1];
+}
 
-    if (text == NULL || end == text || *end != '\0')
-        fail("a number is wanted in the place of '%s'", text == NULL ? "" : text);
+static uint64_t number_of(char **option)
+{
+    const char *text = value_of(option);
+    char *end;
+    uint64_t number = strtoull(text, &end, 10);
+
+    if (end == text || *end != '\0')
+        fail("a number is wanted behind %s in the place of '%s'", option[0], text);
     return number;
+}
+
+/* The name of the table of a row, or NULL where the row is not asked for on it. A call without a table stands once, under the first. */
+static const char *table_of(const struct row *row, const struct shape *shape, const char *only, const char *table)
+{
+    const char *name = row->has_table ? shape->name : shape == shapes ? "-" : NULL;
+
+    if (name == NULL || (only != NULL && strcmp(only, row->name) != 0) || (table != NULL && strcmp(table, name) != 0))
+        return NULL;
+    return name;
 }
 
 int main(int count, char **values)
 {
     uint64_t calls = 400000, rounds = 400;
-    int is_csv = 0, is_once = 0;
+    int is_csv = 0, is_once = 0, is_found = 0;
     const char *only = NULL, *table = NULL;
 
     for (int i = 1; i < count; i++) {
@@ -1052,18 +1072,22 @@ int main(int count, char **values)
         else if (strcmp(values[i], "--once") == 0)
             is_once = 1;
         else if (strcmp(values[i], "--calls") == 0)
-            calls = number_of(values[++i]);
+            calls = number_of(values + i++);
         else if (strcmp(values[i], "--rounds") == 0)
-            rounds = number_of(values[++i]);
+            rounds = number_of(values + i++);
         else if (strcmp(values[i], "--only") == 0)
-            only = values[++i];
+            only = value_of(values + i++);
         else if (strcmp(values[i], "--table") == 0)
-            table = values[++i];
+            table = value_of(values + i++);
         else if (strcmp(values[i], "--seed") == 0)
-            random_state = 2 * number_of(values[++i]) + 1;
+            random_state = 2 * number_of(values + i++) + 1;
         else
             fail("usage: bench [--csv] [--once] [--calls N] [--rounds N] [--seed N] [--only ROW] [--table TABLE]");
     }
+    for (size_t i = 0; i < ROWS * SHAPES; i++)
+        is_found |= table_of(rows + i / SHAPES, shapes + i % SHAPES, only, table) != NULL;
+    if (!is_found)
+        fail("there is no such row: %s on the table %s", only == NULL ? "any" : only, table == NULL ? "any" : table);
     if (!is_once && calls > 0)
         compare(calls, is_csv ? stderr : stdout);
     if (rounds == 0)
@@ -1075,17 +1099,15 @@ int main(int count, char **values)
             printf("table '%s': %s\n", shapes[i].name, shapes[i].what);
         printf("%-15s %-8s %10s %10s %8s\n", "call", "table", "library ns", "twin ns", "ratio");
     }
-    for (size_t i = 0; i < ROWS; i++) {
-        for (size_t j = 0; j < (rows[i].has_table ? (size_t)SHAPES : 1); j++) {
-            const char *shape_name = rows[i].has_table ? shapes[j].name : "-";
+    for (size_t i = 0; i < ROWS * SHAPES; i++) {
+        const struct row *row = rows + i / SHAPES;
+        const struct shape *shape = shapes + i % SHAPES;
+        const char *shape_name = table_of(row, shape, only, table);
 
-            if ((only != NULL && strcmp(only, rows[i].name) != 0) || (table != NULL && strcmp(table, shape_name) != 0))
-                continue;
-            if (is_once)
-                make_once(rows + i, shapes + j, shape_name);
-            else
-                time_row(rows + i, shapes + j, shape_name, rounds, is_csv);
-        }
+        if (shape_name != NULL && is_once)
+            make_once(row, shape, shape_name);
+        else if (shape_name != NULL)
+            time_row(row, shape, shape_name, rounds, is_csv);
     }
     return EXIT_SUCCESS;
 }

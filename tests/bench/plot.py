@@ -1,128 +1,136 @@
 #!/usr/bin/env python3
-"""Draws the rows of bench.c --csv or of count.sh as an SVG on standard output.
+"""Draws the rows of bench.c --csv as an SVG, and prints them with those of count.sh as a Markdown table.
 
-    plot.py [--text] [FILE ..]
+    plot.py TIMES COUNTS SVG
 
-Rows come from the files, or from standard input where none is named. Of a row that stands in several files the least number of each
-side counts, so that runs of programs that were linked differently can be put together. With --text the rows are printed as a text.
+TIMES may have the rows of several programs one behind the other: of a row that stands several times the least number of each side counts.
 """
 import csv
+import itertools
+import pathlib
 import sys
 from xml.sax.saxutils import escape
 
 TABLES = {
-    "one": "one line, one child",
-    "half": "16 lines, one child each",
-    "full": "32 lines, one child each",
-    "crowded": "32 lines, seven holds and eight children each",
-    "-": "calls without a table",
+    "one": "Table 'one': one line with one child",
+    "half": "Table 'half': 16 lines with one child each",
+    "full": "Table 'full': 32 lines with one child each",
+    "crowded": "Table 'crowded': 32 lines with 7 holds and 8 children each",
+    "-": "Calls without a table",
 }
-SIDES = (("library", "#31688e"), ("twin", "#e08214"))
+TITLE = "How long a call takes, beside its twin in C"
+CAPTION = (
+    "A bar is the time of a call of the library divided by that of its hand-written twin in C. The dashed line is the twin: a bar that",
+    "ends left of it is a faster call, one that ends right of it a slower one. On the right, the nanoseconds of both, the least of all runs.",
+)
 
-# All lengths are in pixels.
-MARGIN, LABEL, PLOT, VALUES = 20, 110, 330, 170
-ROW, BAR, HEAD, TITLE = 26, 10, 50, 40
-PANEL = LABEL + PLOT + VALUES
+# All lengths are in pixels; NUMBER is what a ratio takes behind the longest bar.
+MARGIN, LABEL, PLOT, NUMBER, VALUES = 20, 100, 190, 40, 110
+ROW, BAR, HEAD, TOP = 20, 12, 50, 90
+PANEL = LABEL + PLOT + NUMBER + VALUES
 
 
-def read(streams):
-    """The unit of the numbers, and for each call and table the least number of either side."""
-    unit, rows = None, {}
-    for stream in streams:
-        lines = csv.reader(stream)
-        head = next(lines, [])
-        if len(head) != 5 or head[:2] != ["call", "table"] or not head[2].startswith("library_"):
-            sys.exit("plot.py: the first line does not name the columns of bench.c or count.sh")
-        if unit not in (None, head[2][len("library_"):]):
-            sys.exit("plot.py: the files have different units")
-        unit = head[2][len("library_"):]
-        for call, table, library, twin, _ in lines:
+def read(name, unit):
+    """For each call and table the least number of the library and the least of the twin."""
+    rows = {}
+    with open(name, encoding="utf-8", newline="") as lines:
+        for row in csv.reader(lines):
+            if row == ["call", "table", f"library_{unit}", f"twin_{unit}", "ratio"]:
+                continue
+            call, table, library, twin, _ = row
             numbers = (float(library), float(twin))
-            before = rows.get((call, table), numbers)
-            rows[call, table] = tuple(min(pair) for pair in zip(before, numbers))
-    if not rows:
-        sys.exit("plot.py: there are no rows")
-    return unit, rows
+            rows[call, table] = tuple(map(min, numbers, rows.get((call, table), numbers)))
+    return rows
 
 
 def shown(number):
-    """One place behind the point for small numbers that are no whole ones, else none."""
-    return f"{number:,.1f}" if number < 100 and number != int(number) else f"{number:,.0f}"
+    """One place behind the point for small numbers, else none."""
+    return f"{number:,.1f}" if number < 100 else f"{number:,.0f}"
+
+
+def markdown(times, counts):
+    lines = [
+        "| Call | Table | ns | Twin's ns | Ratio | Instructions | Twin's instructions | Ratio |",
+        "|---|---|---:|---:|---:|---:|---:|---:|",
+    ]
+    for (call, table), (library, twin) in times.items():
+        counted, of_twin = counts[call, table]
+        lines.append(
+            f"| `{call}` | {table} | {shown(library)} | {shown(twin)} | {library / twin:.2f}"
+            f" | {counted:,.0f} | {of_twin:,.0f} | {counted / of_twin:.2f} |"
+        )
+    return "\n".join(lines)
 
 
 def step_of(most):
-    """A round distance of grid lines that gives at most six of them."""
-    step = 1
-    while most / step > 6:
-        step = step * 5 // 2 if str(step)[0] == "2" else step * 2
-    return step
+    """A round distance of grid lines that gives at most eight of them."""
+    return next(step for power in itertools.count(-1) for step in (10**power, 2 * 10**power, 5 * 10**power) if most / step <= 8)
 
 
 def text(x, y, words, anchor="start", more=""):
     return f'<text x="{x:.1f}" y="{y:.1f}" text-anchor="{anchor}"{more}>{escape(words)}</text>'
 
 
-def bar(x, y, length, colour):
-    return f'<rect x="{x:.1f}" y="{y:.1f}" width="{max(length, 0.5):.1f}" height="{BAR}" fill="{colour}"/>'
+def line(x, top, bottom, more):
+    return f'<line x1="{x:.1f}" y1="{top}" x2="{x:.1f}" y2="{bottom}" {more}/>'
 
 
-def panel(left, top, table, rows, unit):
-    """One table's calls: two bars each, with both numbers and the ratio behind them."""
-    drawn = [text(left, top + 18, f"{TABLES.get(table, table)} ({unit})", more=' font-weight="bold"')]
-    most = max(max(numbers) for _, numbers in rows)
+def panel(left, top, table, rows, most):
+    """One table's calls: the bar of each with its ratio, and the nanoseconds of both sides."""
     start, first = left + LABEL, top + HEAD
-    bottom = first + ROW * len(rows)
+    bottom, end = first + ROW * len(rows), left + PANEL
+    drawn = [
+        text(left, top + 14, TABLES.get(table, table), more=' font-weight="bold"'),
+        text(start - 8, first - 6, "ratio", "end", ' fill="#555555"'),
+        text(end, first - 6, "library / twin, ns", "end", ' fill="#555555"'),
+    ]
     step = step_of(most)
-    for i in range(int(most // step) + 1):
+    for i in range(int(most / step) + 1):
         x = start + PLOT * i * step / most
-        drawn.append(f'<line x1="{x:.1f}" y1="{first}" x2="{x:.1f}" y2="{bottom}" stroke="#dddddd"/>')
-        drawn.append(text(x, first - 6, f"{i * step:,}", "middle", ' fill="#555555"'))
-    for i, (call, numbers) in enumerate(rows):
-        y = first + ROW * i + (ROW - 2 * BAR) / 2
-        drawn.append(text(start - 8, y + BAR + 4, call, "end"))
-        for j, (number, (_, colour)) in enumerate(zip(numbers, SIDES)):
-            drawn.append(bar(start, y + j * BAR, PLOT * number / most, colour))
-        ratio = numbers[0] / numbers[1]
-        drawn.append(text(start + PLOT + 8, y + BAR + 4, f"{shown(numbers[0])} / {shown(numbers[1])} = {ratio:.2f}"))
-    return drawn
+        drawn.append(line(x, first, bottom, 'stroke="#dddddd"'))
+        drawn.append(text(x, first - 6, f"{i * step:g}", "middle", ' fill="#555555"'))
+    for i, (call, (library, twin)) in enumerate(rows):
+        y, ratio = first + ROW * i + (ROW - BAR) / 2, library / twin
+        length = PLOT * ratio / most
+        drawn.append(f'<rect x="{start}" y="{y:.1f}" width="{length:.1f}" height="{BAR}" fill="#7fa8c9"/>')
+        drawn.append(text(start - 8, y + 10, call, "end"))
+        drawn.append(text(start + max(length, PLOT / most) + 5, y + 10, f"{ratio:.2f}"))
+        drawn.append(text(end, y + 10, f"{shown(library)} / {shown(twin)}", "end"))
+    return drawn + [line(start + PLOT / most, first, bottom, 'stroke="#000000" stroke-dasharray="4 3"')]
 
 
-def svg(unit, rows):
-    tables = list(dict.fromkeys(table for _, table in rows))
+def svg(rows):
+    tables = dict.fromkeys(table for _, table in rows)
     panels = [(table, [(call, numbers) for (call, of), numbers in rows.items() if of == table]) for table in tables]
-    drawn, top = [], MARGIN + TITLE
+    most = max(1, *(library / twin for library, twin in rows.values()))
+    drawn, top = [text(MARGIN, MARGIN + 16, TITLE, more=' font-size="18" font-weight="bold"')], TOP
+    drawn += [text(MARGIN, MARGIN + 38 + 17 * i, words) for i, words in enumerate(CAPTION)]
     for i in range(0, len(panels), 2):
         for j, (table, of_table) in enumerate(panels[i:i + 2]):
-            drawn += panel(MARGIN + j * (PANEL + MARGIN), top, table, of_table, unit)
+            drawn += panel(MARGIN + j * (PANEL + MARGIN), top, table, of_table, most)
         top += HEAD + ROW * max(len(of_table) for _, of_table in panels[i:i + 2]) + MARGIN
-    width, x = 3 * MARGIN + 2 * PANEL, MARGIN
-    for name, colour in SIDES:
-        drawn += [bar(x, MARGIN, 24, colour), text(x + 30, MARGIN + 9, name)]
-        x += 110
+    width = 3 * MARGIN + 2 * PANEL
     return "\n".join(
         [
             f'<svg xmlns="http://www.w3.org/2000/svg" width="{width}" height="{top}" viewBox="0 0 {width} {top}"'
-            ' font-family="sans-serif" font-size="12">',
+            ' font-family="sans-serif" font-size="12" role="img">',
+            f"<title>{escape(TITLE)}</title>",
             f'<rect width="{width}" height="{top}" fill="#ffffff"/>',
             *drawn,
-            "</svg>",
+            "</svg>\n",
         ]
     )
 
 
-def table_text(unit, rows):
-    places = 1 if unit == "ns" else 0
-    lines = [f"{'call':15} {'table':8} {'library ' + unit:>20} {'twin ' + unit:>20} {'ratio':>8}"]
-    for (call, table), (library, twin) in rows.items():
-        lines.append(f"{call:15} {table:8} {library:20,.{places}f} {twin:20,.{places}f} {library / twin:8.2f}")
-    return "\n".join(lines)
-
-
 def main():
-    names = [name for name in sys.argv[1:] if name != "--text"]
-    streams = [open(name, encoding="utf-8", newline="") for name in names] or [sys.stdin]
-    unit, rows = read(streams)
-    print((table_text if "--text" in sys.argv[1:] else svg)(unit, rows))
+    if len(sys.argv) != 4:
+        sys.exit("usage: plot.py TIMES COUNTS SVG")
+    times, counts = read(sys.argv[1], "ns"), read(sys.argv[2], "instructions")
+    if not times or times.keys() != counts.keys():
+        sys.exit("plot.py: there are no rows, or the two files have different ones")
+    pathlib.Path(sys.argv[3]).write_text(svg(times), encoding="utf-8")
+    print(markdown(times, counts))
 
 
-main()
+if __name__ == "__main__":
+    main()

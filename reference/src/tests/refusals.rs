@@ -26,15 +26,6 @@ fn pairs_and_rooms() {
 }
 
 #[test]
-fn a_buffer_longer_than_needed_is_zeros_past_the_written_part() {
-    let mut table = opened();
-    let answer = table.call(&Call::List { tenant: 0, room: 5000 });
-    assert_eq!(answer.buffer.len(), 5000);
-    assert!(answer.buffer[answer.numbers[11] as usize..].iter().all(|octet| *octet == 0));
-    assert_eq!(table.call(&Call::List { tenant: 0, room: usize::MAX }).refusal, 0);
-}
-
-#[test]
 fn times() {
     let table = in_phase("chosen");
     assert_eq!(refusal(&table, 4_294_967_295, Event::Begin), 0);
@@ -346,9 +337,6 @@ fn responses_refused() {
     extended[13] = 0xFF;
     assert_eq!(read_response(&extended), (0, [2, 7, 16, 3, 21, 2]));
     let long: Vec<u8> = [&[2, 7, 4, 21, 254, 0, 0x28, 0xAF, 0, 0, 0, 3, 2, 0, 4, 2][..], &[0; 1026], &[0, 1, 1]].concat();
-    let mut long = long;
-    let length = (long.len() as u16).to_be_bytes();
-    long[2..4].copy_from_slice(&length);
     assert_eq!(read_response(&long).0, 9);
 }
 
