@@ -14,6 +14,11 @@ pub struct Table {
 }
 
 impl Table {
+    /// The table that has these lines, which are those of a sound one.
+    pub fn of_lines(lines: impl IntoIterator<Item = ((u64, u64), Line)>) -> Table {
+        Table { lines: lines.into_iter().collect() }
+    }
+
     /// Makes one call: an accepted one changes the table, a refused one leaves it as it was.
     pub fn call(&mut self, call: &Call) -> Answer {
         let (room, least) = call.room();

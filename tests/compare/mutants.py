@@ -4,10 +4,10 @@
 mutants.py            tries all of them
 mutants.py NUMBER..   tries these
 
-The model, the comparison and what they need are copied below target/mutants. A slip is an exact text of one file of the model with another
-text in its place; it must stand there once. A fault is C code that a function in front of an exported call runs behind it. Each
-is reported where the comparison exits with 1 and names a deviation; without any of them it must exit with 0. Each is one line, 'ok - ..'
-or 'not ok - ..'. Exits 0 only where all are ok. Needs cargo, cc, ar and objcopy.
+The model, the comparison and what they need are copied below target/mutants. A slip is exact texts of one file of the model with other
+texts in their places; each must stand there once. A fault is C code that a function in front of an exported call runs behind it. Each
+is reported where the comparison, perhaps one part of it alone, exits with 1 and names a deviation; without any of them it must exit with
+0. Each is one line, 'ok - ..' or 'not ok - ..'. Exits 0 only where all are ok. Needs cargo, cc, ar and objcopy.
 """
 import pathlib
 import re
@@ -21,7 +21,7 @@ ARCHIVE = 'target/staticlib/libscaltrovina.a'
 COPIED = ['reference/Cargo.toml', 'reference/src', 'tests/compare/Cargo.toml', 'tests/compare/build.rs', 'tests/compare/src',
           'tests/compare/corpus', ARCHIVE]
 
-# What is wrong, the file of the model, what stands there, what takes its place.
+# What is wrong, the file of the model, what stands there, what takes its place, and so on by twos.
 SLIPS = [
     ('a ninth child is taken', 'line.rs',
      'refuse_if(children.len() >= 8, 12)',
@@ -73,9 +73,34 @@ SLIPS = [
     ('an IKE delete leaves the line sure', 'line.rs',
      '(Event::IkeDelete, Phase::Live(..)) => self.enter(Phase::Idle, Action::Release)',
      '(Event::IkeDelete, Phase::Live(address, _)) => self.enter(Phase::Sure(*address), Action::Release)'),
+    ('a refused call leaves a number in its answer', 'answer.rs',
+     'Err(Refused(refusal)) => (refusal, Accepted::default()),',
+     'Err(Refused(refusal)) => (refusal, Accepted { error: refusal, ..Accepted::default() }),'),
+    ('a refused response leaves an octet in its buffer', 'packet.rs',
+     'Err(Refused(refusal)) => (refusal, [0; 6], Vec::new()),',
+     'Err(Refused(refusal)) => (refusal, [0; 6], vec![RESPONSE]),'),
+    ('a parameter starts at its type', 'packet.rs',
+     '(next - value.len()) as u64, value.len() as u64, next as u64',
+     '(next - value.len() - 2) as u64, value.len() as u64, next as u64'),
+    ('a response has the place of its NAS without the length', 'packet.rs',
+     'let nas_start = FIRST_FIELD + parameters.len() + 2;',
+     'let nas_start = FIRST_FIELD + parameters.len();'),
+    ('closing keeps the children for the line that is opened next', 'table.rs',
+     'self.lines.iter().map(|(pair, line)| (*pair, line))',
+     'self.lines.iter().filter(|(pair, _)| exists(**pair)).map(|(pair, line)| (*pair, line))',
+     'refuse_if(self.lines.len() >= 32, 6)?;\n        self.lines.insert(pair, Line::default());',
+     'refuse_if(self.lines().count() >= 32, 6)?;\n        let kept = self.lines.remove(&(pair.0 + 16, pair.1)).unwrap_or_default();\n'
+     '        self.lines.insert(pair, Line { phase: kept.phase, ..Line::default() });',
+     'self.lines.remove(&pair).map(|_| Accepted::default()).ok_or(Refused(5))',
+     'let closed = self.lines.remove(&pair).ok_or(Refused(5))?;\n        if matches!(closed.phase, crate::line::Phase::Live(..)) {\n'
+     '            self.lines.insert((pair.0 + 16, pair.1), closed);\n        }\n        Ok(Accepted::default())'),
+    ('one clock for all lines', 'table.rs',
+     'let line = self.lines.get_mut(&pair).ok_or(Refused(5))?;\n        refuse_if(time < line.time, 7)?;',
+     'let latest = self.lines.values().map(|line| line.time).max();\n'
+     '        let line = self.lines.get_mut(&pair).ok_or(Refused(5))?;\n        refuse_if(Some(time) < latest, 7)?;'),
 ]
 
-# What is wrong, the call, and what runs behind it; `refusal` is what it returned.
+# What is wrong, the call, what runs behind it, and arguments of the comparison; `refusal` is what the call returned.
 FAULTS = [
     ('the listing goes on behind its buffer', 'scal_list', 'if (!refusal) listing[listing_length] ^= 1;'),
     ('a refused begin changes the table', 'scal_begin', 'if (refusal == 10) table[4] ^= 1;'),
@@ -84,6 +109,19 @@ FAULTS = [
     ('the final answer has a thirteenth number', 'scal_final', 'if (!refusal) (&answer->action)[12] ^= 1;'),
     ('open changes the record of another pair', 'scal_open', 'if (!refusal && table[243]) table[4] |= 1;'),
     ('close takes some tables that are not sound', 'scal_close', 'if (refusal == 1 && table_length == 7776) refusal = 5;'),
+    ('open takes the last record while others are free', 'scal_open',
+     'if (!refusal && table[20 * 243] && !table[31 * 243])\n'
+     '        for (size_t at = 0; at < 31 * 243; at += 243)\n'
+     '            if (table[at] == 1 + 4 * tenant + line) {\n'
+     '                table[31 * 243] = table[at];\n'
+     '                table[at] = 0;\n'
+     '            }'),
+    ('close erases the last record where it has a hold that ends from 2^33 on', 'scal_close',
+     'for (size_t hold = 31 * 243 + 27; hold < 31 * 243 + 203; hold += 22)\n'
+     '        if (!refusal && table[hold + 17] >= 2)\n'
+     '            for (size_t at = 31 * 243; at < 32 * 243; at++)\n'
+     '                table[at] = 0;'),
+    ('begin shows the time of another line', 'scal_begin', 'if (!refusal && table[4] & 1) answer->error = 1;', '--part', 'pairs'),
 ]
 
 
@@ -100,36 +138,38 @@ def copy():
 
 
 def run(*command, **options):
-    return subprocess.run(command, capture_output=True, text=True, **options)
+    return subprocess.run(command, capture_output=True, encoding='utf-8', **options)
 
 
-def fault():
+def fault(*arguments):
     """None where the comparison of the copy reports a deviation, else what it does; '' where it reports nothing."""
     target = COPY / 'target' / 'compare'
     built = run('cargo', 'build', '--release', '--offline', '--target-dir', target, cwd=COPY / 'tests' / 'compare')
     if built.returncode:
         return 'it cannot be built: ' + built.stderr
-    compared = run(target / 'release' / 'compare')
+    compared = run(target / 'release' / 'compare', *arguments)
     if compared.returncode == 1 and '\ndeviation' in compared.stdout:
         return None
     return '' if compared.returncode == 0 else f'status {compared.returncode}: {compared.stdout}{compared.stderr}'
 
 
-def slipped(name, old, new):
+def slipped(name, *texts):
     """Why a slip is not reported, or None where it is."""
     path = COPY / 'reference' / 'src' / name
-    whole = path.read_text()
-    if whole.count(old) != 1:
-        return f'this text stands {whole.count(old)} times in {name}: {old}'
-    path.write_text(whole.replace(old, new))
+    whole = slip = path.read_text(encoding='utf-8')
+    for old, new in zip(texts[::2], texts[1::2]):
+        if whole.count(old) != 1:
+            return f'this text stands {whole.count(old)} times in {name}: {old}'
+        slip = slip.replace(old, new)
+    path.write_text(slip, encoding='utf-8')
     found = fault()
-    path.write_text(whole)
+    path.write_text(whole, encoding='utf-8')
     return found
 
 
 def prototypes():
     """The exported calls with their parameters."""
-    header = (ROOT / 'include' / 'scaltrovina.h').read_text()
+    header = (ROOT / 'include' / 'scaltrovina.h').read_text(encoding='utf-8')
     return [(name, ' '.join(parameters.split())) for name, parameters in re.findall(r'^uint64_t (scal_\w+)\(([^;]*)\);', header, re.M)]
 
 
@@ -145,12 +185,12 @@ def front(call, code):
     return '\n'.join(lines) + '\n'
 
 
-def faulty(call, code):
+def faulty(call, code, *arguments):
     """Why a fault of the library is not reported, or None where it is."""
     folder, archive = COPY / 'target' / 'front', COPY / ARCHIVE
     shutil.rmtree(folder, ignore_errors=True)
     folder.mkdir(parents=True)
-    (folder / 'front.c').write_text(front(call, code))
+    (folder / 'front.c').write_text(front(call, code), encoding='utf-8')
     renamed = [each for name, _ in prototypes() for each in ('--redefine-sym', f'{name}=real_{name}')]
     for command in (['objcopy', *renamed, ROOT / ARCHIVE, 'real.a'], ['ar', 'x', 'real.a'],
                     ['cc', '-fPIC', '-I', ROOT / 'include', '-c', 'front.c']):
@@ -159,7 +199,7 @@ def faulty(call, code):
             return f'{command[0]}: {done.stderr}'
     archive.unlink()
     done = run('ar', 'rcs', archive, *sorted(folder.glob('*.o')))
-    found = done.stderr or fault()
+    found = done.stderr or fault(*arguments)
     shutil.copyfile(ROOT / ARCHIVE, archive)
     return found
 

@@ -182,7 +182,7 @@ pub fn are_sound(b: &[u8], at: usize, n: usize) -> bool
     requires { ⌜ at + childrenRoom ≤ length (now b) ⌝ }
     ensures { λ r. ⌜ r ≡ childrenWritten (now (b .entry)) at n && allOf childFits (childrenFrom (now (b .entry)) at n) && spisDiffer (childrenFrom (now (b .entry)) at n) ⌝ }
 {
-    // Most lines have one child, and its test needs no loop.
+    // One child is tested without a loop.
     if n == 1 {
         let child = read_child(b, at);
         return child_fits(child) & zeros_at(b, at + LENGTH, CHILDREN_ROOM - LENGTH);

@@ -90,15 +90,6 @@ readPacket l =
     (cond (isNasResponse l) (NasResponse (identifier l) 16 (field l 14 2) (nasPlace l + 2) (field l (nasPlace l) 2))
     (cond (isMessage 2 4 l) (Stop (identifier l)) Other))))
 
--- the NAS of a packet that was read, and nothing where it has none
-unfoldable pub nasOf : List ℕ → Packet → List ℕ
-nasOf l (Start i) = []
-nasOf l (NasRequest i at n) = part l at n
-nasOf l (Success i) = []
-nasOf l (NasResponse i p m at n) = part l at n
-nasOf l (Stop i) = []
-nasOf l Other = []
-
 -- what the network sends and the handset reads: Start, NAS requests and Success
 unfoldable pub isRequest : Packet → Bool
 isRequest (Start i) = true

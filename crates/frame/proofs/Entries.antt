@@ -21,7 +21,7 @@ use Rattle.rules.specs.Call.{Call, Event, pairOf, tenantOf, timed}
 use Rattle.rules.specs.Refusals.{isAboveLast, isEarly, isFull, isNoPair, isNotOpen, isOpenAlready, isShort, refusals}
 use Rattle.rules.specs.Run.{run, settled, stepOf}
 use Rattle.rules.specs.View.{View, lineOr, lineSeen, ownLine, viewIn, viewOf}
-use Rattle.rules.proofs.Accepted.{found-sound, own-is, pair-low}
+use Rattle.rules.proofs.Accepted.{own-is}
 use Rattle.step.proofs.Running.{effect-run}
 use Rattle.frame.specs.Entering.{Enters, firstRefusals}
 use Rattle.frame.specs.declared.Entered.{Entered}
@@ -133,10 +133,8 @@ module _ (tenant line time : ℕ) (short : Bool) (l : List ℕ) (r : Entered) wh
         passes = λ z. record {
           result-is = λ e room. rw pair (effect-run tenant line time e l own sound pair-is (room ∙ long) (seen (some own) e there) risen);
           buffer-fits = long;
-          line-is = there;
           at-is = at;
           within = within;
           used = used;
-          sound = found-sound l sound (pairOf tenant line) (pair-low tenant line pair-is) own there;
         };
       }

@@ -2,19 +2,16 @@
 use Prim.Native.Nat.{ℕ, _+_, _*_, _≤_}
 use mathlib.Core.Bool.{Bool, true, false, not}
 use mathlib.Core.List.{List, [], _∷_}
-use mathlib.Core.Option.{some}
 use mathlib.Core.Path.{_≡_}
 use lib.ListN.{length}
 use Rattle.octets.specs.Refusal.{Refusal, _when_}
 use Rattle.record.specs.Octets.{lineFrom, recordLength}
-use Rattle.record.specs.Sound.{isRecord, lineSound}
-use Rattle.table.specs.Slots.{slotsOf}
+use Rattle.record.specs.Sound.{isRecord}
 use Rattle.table.specs.Table.{isTable, recordOf, slot}
 use Rattle.rules.specs.Answer.{refused}
 use Rattle.rules.specs.Call.{Event, timed}
 use Rattle.rules.specs.Refusals.{isAboveLast, isShort}
 use Rattle.rules.specs.Run.{run}
-use Rattle.rules.specs.View.{ownLine}
 use Rattle.step.specs.Laws.{resultBy}
 use Rattle.step.specs.Step.{effect}
 use Rattle.frame.specs.declared.Entered.{Entered}
@@ -28,11 +25,9 @@ pub record Passes (r : Entered) (tenant line time : ℕ) (short : Bool) (l : Lis
   pub result-is : (e : Event) → isShort (timed tenant line time e) ≡ short
       → run (timed tenant line time e) l ≡ resultBy (effect e time (lineFrom (slot l (r .at)))) (r .pair) l
   pub buffer-fits : short ≡ false
-  pub line-is : ownLine tenant (slotsOf l) line ≡ some (lineFrom (slot l (r .at)))
   pub at-is : r .at ≡ recordOf l (r .pair)
   pub within : recordLength * r .at + recordLength ≤ length l
   pub used : isRecord (slot l (r .at)) ≡ true
-  pub sound : lineSound (lineFrom (slot l (r .at))) ≡ true
 
 -- the entry tests of a call at a time whose answer buffer is too short or not: refused, or passed
 pub record Enters (r : Entered) (tenant line time : ℕ) (short : Bool) (l : List ℕ) : Type 0 where

@@ -15,7 +15,7 @@ use octets::number::put;
 use octets::slice::zeros_at;
 ghost use mathlib.Core.Bool.{_&&_};
 ghost use mathlib.Core.Path.{_≡_};
-ghost use Prim.Native.Nat.{_+_, _*_, _≤_};
+ghost use Prim.Native.Nat.{_+_, _≤_};
 ghost use lib.ListN.{length, take};
 ghost use Rattle.octets.specs.Digits.{field};
 ghost use Rattle.octets.specs.Part.{Wrote};
@@ -115,7 +115,7 @@ fn ends_at_after(b: &[u8], at: usize, time: u64) -> bool
     (end == 0) | (time < end)
 }
 
-// Whether at most 8 holds stand at a place, each with an address and an end after a time, and zeros behind them.
+// Whether at most 8 holds stand at a place, each with an address and not ended at a time, and zeros behind them.
 pub fn stand_in_force(b: &[u8], at: usize, n: usize, time: u64) -> bool
     requires { ⌜ at + holdsRoom ≤ length (now b) ⌝ }
     ensures { λ r. ⌜ r ≡ holdsWritten (now (b .entry)) at n && allOf (endsAfter time) (holdsFrom (now (b .entry)) at n) ⌝ }
@@ -139,7 +139,7 @@ pub fn stand_in_force(b: &[u8], at: usize, n: usize, time: u64) -> bool
     zeros_at(b, at + LENGTH * n, HOLDS_ROOM - LENGTH * n)
 }
 
-// The keys of the first n addresses held, and another key in the last of the eight places where it is free.
+// The keys of the first n addresses held, and the key `other` in the last of the eight places where that is free.
 pub fn keys(b: &[u8], at: usize, n: usize, other: u32) -> [u32; HOLDS]
     requires { ⌜ (at + holdsRoom ≤ length (now b)) × (n ≤ mostHolds) ⌝ }
     ensures { λ r. ⌜ KeysOf (now (b .entry)) at n other r ⌝ }

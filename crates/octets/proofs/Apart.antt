@@ -1,16 +1,15 @@
 -- What a test of eight places twice over says of any two of them.
 use Prim.Native.Nat.{ℕ, zero, suc, _+_, _-_, _≤_, _<_}
-use mathlib.Core.Bool.{Bool, true, false, not, _&&_}
+use mathlib.Core.Bool.{Bool, true, _&&_}
 use mathlib.Core.List.{List}
-use mathlib.Core.Path.{_≡_, refl, sym, ap, _∙_}
+use mathlib.Core.Path.{_≡_, sym, ap, _∙_}
 use native.Mathlib.Omega.{arith}
 use lib.Dec.{eqb}
 use lib.ListN.{getD}
 use borrow.Author.Tests.{eqb-false, not-true}
 use Rattle.octets.specs.Differ.{differsOn, places, AllDiffer, Twice}
-use Rattle.octets.specs.Row.{row}
-use Rattle.octets.specs.Search.{all, anyOf, distinct}
-use Rattle.octets.proofs.Search.{all-each, and-left, and-right, and-true, lower, or-both}
+use Rattle.octets.specs.Search.{all}
+use Rattle.octets.proofs.Search.{all-each, and-left, and-right, lower}
 
 -- what holds of each of the eight places holds of every place
 pub each-place : (P : ℕ → Type 0) → P 0 → P 1 → P 2 → P 3 → P 4 → P 5 → P 6 → P 7 → (i : ℕ) → i < places → P i
@@ -54,18 +53,3 @@ near-apart w v doubled a b c d p q r s h = all-apart w v doubled near
     near (suc (suc (suc zero))) low high = sym r ∙ and-right (a && b) c (and-left ((a && b) && c) d h)
     near (suc (suc (suc (suc zero)))) low high = sym s ∙ and-right ((a && b) && c) d h
     near (suc (suc (suc (suc (suc k))))) low high = absurd (omega arith)
-
--- values that no other one is alike to are distinct
-module _ {A : Type 0} (alike : A → A → Bool) (f : ℕ → A) where
-  pub none-alike : (x : A) (k n : ℕ) → ((j : ℕ) → k ≤ j → j < k + n → alike x (f j) ≡ false) → anyOf (alike x) (row f k n) ≡ false
-  unfolding anyOf row
-  none-alike x k zero h = refl
-  none-alike x k (suc n) h = or-both (alike x (f k)) (anyOf (alike x) (row f (suc k) n)) (h k (omega arith) (omega arith)) (none-alike x (suc k) n (λ j a b. h j (omega arith) (omega arith)))
-
-  pub row-distinct : (k n : ℕ) → ((i j : ℕ) → k ≤ i → i < j → j < k + n → alike (f i) (f j) ≡ false) → distinct alike (row f k n) ≡ true
-  unfolding distinct row
-  row-distinct k zero h = refl
-  row-distinct k (suc n) h =
-      and-true (not (anyOf (alike (f k)) (row f (suc k) n))) (distinct alike (row f (suc k) n))
-      (ap not (none-alike (f k) (suc k) n (λ j a b. h k j (omega arith) (omega arith) (omega arith))))
-      (row-distinct (suc k) n (λ i j a b c. h i j (omega arith) b (omega arith)))

@@ -25,6 +25,16 @@ pub and-false : (a b : Bool) → b ≡ false → a && b ≡ false
 and-false true b e = e
 and-false false b e = refl
 
+-- a test that passes adds nothing
+pub and-last : (b : Bool) → b && true ≡ b
+and-last true = refl
+and-last false = refl
+
+-- a test that cannot pass fails
+pub never-passes : (b : Bool) → (b ≡ true → ⊥) → b ≡ false
+never-passes true h = absurd (h refl)
+never-passes false h = refl
+
 pub or-left : (a b : Bool) → a || b ≡ false → a ≡ false
 or-left true b e = absurd (true≢false e)
 or-left false b e = refl

@@ -1,11 +1,11 @@
-// Numbers in eight places, compared with each other: a test that is compiled to few instructions.
+// Numbers in eight places, put there and compared with each other in few instructions.
 ghost use mathlib.Core.Bool.{true, cond};
 ghost use mathlib.Core.Path.{_≡_};
-ghost use Prim.Native.Nat.{_+_, _≤_, _<_};
+ghost use Prim.Native.Nat.{_≤_};
 ghost use Rattle.octets.specs.Differ.{differsOn, places, AllDiffer, Twice};
 ghost use Rattle.octets.specs.Search.{all};
 
-// How many numbers there are.
+// How many places there are: as many as a line has room for holds, and for children.
 const PLACES: usize = 8;
 
 // The first of two numbers where a test passes, else the second.
@@ -56,7 +56,7 @@ fn differ_on(v: [u32; 2 * PLACES], d: usize) -> bool
     differ
 }
 
-// Whether no two places hold the same number.
+// True only where no two places hold the same number.
 pub fn all_differ(w: [u32; PLACES]) -> bool
     ensures { λ r. ⌜ (r ≡ true → AllDiffer w) ⌝ }
 {

@@ -10,11 +10,6 @@ use borrow.Author.Tests.{ne-eqb}
 pub isnt : (octet k n : ℕ) → k ≡ octet → (k ≡ n → ⊥) → eqb octet n ≡ false
 isnt octet k n of h = ne-eqb octet n (subst (λ (i : ℕ). i ≡ n → ⊥) of h)
 
--- a test that always passes adds nothing
-pub and-passed : (a : Bool) → a ≡ a && true
-and-passed true = refl
-and-passed false = refl
-
 -- the last two of three tests in the other order
 pub and-swap : (a b c : Bool) → a && b && c ≡ a && c && b
 and-swap true true true = refl

@@ -17,7 +17,8 @@ use Rattle.phase.specs.Phase.{havingFrom, isAbroad, isPhase, phaseFits, 
 use Rattle.phase.specs.declared.Phase.the-variants.{Idle, Country, Name, Chosen, Init, Auth, Eap, Sure, Live}
 use Rattle.phase.specs.declared.Turn.{Turn}
 use Rattle.phase.specs.declared.Turn.the-variants.{First, Owed, Answered}
-use Rattle.phase.proofs.Bools.{isnt, and-passed, and-swap, and-between}
+use Rattle.octets.proofs.Search.{and-last}
+use Rattle.phase.proofs.Bools.{isnt, and-swap, and-between}
 
 module _ (l : List ℕ) (at k : ℕ) (of : k ≡ field l at 1) (i : ℕ) (next : i ≡ field l (at + 1) 1) where
   pub first-is : k ≡ 1 → First i ≡ turnFrom l at
@@ -104,7 +105,7 @@ module _ (l : List ℕ) (at k : ℕ) (of : k ≡ field l at 1) where
   -- whether a phase stands there
   pub idle-stands : k ≡ 0 → zerosAt l (at + 1) 19 ≡ isPhase l at
   unfolding isPhase phaseWritten phaseFrom havingFrom phaseFits
-  idle-stands e = rw (sym of ∙ e) (and-passed (zerosAt l (at + 1) 19))
+  idle-stands e = rw (sym of ∙ e) (sym (and-last (zerosAt l (at + 1) 19)))
 
   pub country-stands : k ≡ 1 → isCountry l at ≡ isPhase l at
   unfolding isPhase phaseWritten phaseFrom havingFrom phaseFits isCountry isAsking factsFrom
@@ -118,7 +119,7 @@ module _ (l : List ℕ) (at k : ℕ) (of : k ≡ field l at 1) where
 
   pub eap-stands : k ≡ 6 → isEap l at ≡ isPhase l at
   unfolding isPhase phaseWritten phaseFrom havingFrom phaseFits isEap
-  eap-stands e = rw (sym of ∙ e) (and-passed (isAddress l (at + 1) && turnWritten l (at + 18)))
+  eap-stands e = rw (sym of ∙ e) (sym (and-last (isAddress l (at + 1) && turnWritten l (at + 18))))
 
   module _ (not-0 : k ≡ 0 → ⊥) (not-1 : k ≡ 1 → ⊥) (not-2 : k ≡ 2 → ⊥) (not-6 : k ≡ 6 → ⊥) where
     above-2 : leb (field l at 1) 2 ≡ false
@@ -136,7 +137,7 @@ module _ (l : List ℕ) (at k : ℕ) (of : k ≡ field l at 1) where
         let to-8 : leb (field l at 1) 8 ≡ true = rw (sym of) (le-leb k 8 h) in
         let fits : phaseFits (phaseFrom l at) ≡ true = rw (sym (having-is not-0 not-1 not-2)) (having-fits l at k) in
         rw (isnt (field l at 1) k 0 of not-0, above-2, isnt (field l at 1) k 6 of not-6, to-8, fits)
-        (and-passed (isAddress l (at + 1) && zerosAt l (at + 18) 2))
+        (sym (and-last (isAddress l (at + 1) && zerosAt l (at + 18) 2)))
 
 -- what stands behind the number, one test after another
 module _ (l : List ℕ) (at : ℕ) where

@@ -7,13 +7,13 @@ use lib.Dec.{leb, eqb}
 use borrow.Author.Tests.{le-leb, lt-leb}
 use Rattle.octets.specs.Digits.{field}
 use Rattle.octets.specs.Part.{zerosAt}
-use Rattle.octets.proofs.Search.{and-false}
+use Rattle.octets.proofs.Search.{and-false, and-last}
 use Rattle.network.specs.declared.MaybePlmn.the-variants.{Is, None}
 use Rattle.address.specs.Address.{isVersion}
 use Rattle.place.specs.declared.Place.the-variants.{Unknown, Home, Abroad}
 use Rattle.phase.specs.Branch.{isPlace, isRegistered}
 use Rattle.phase.specs.Facts.{placeFrom, placeFits, placeWritten, registeredFrom, registeredFits, registeredWritten, factsFrom, factsFit, factsWritten}
-use Rattle.phase.proofs.Bools.{isnt, and-passed, and-pairs}
+use Rattle.phase.proofs.Bools.{isnt, and-pairs}
 
 module _ (l : List ℕ) (at k : ℕ) (of : k ≡ field l at 1) where
   pub home-is : k ≡ 1 → Home ≡ placeFrom l at
@@ -38,7 +38,7 @@ module _ (l : List ℕ) (at k : ℕ) (of : k ≡ field l at 1) where
 
   pub home-kept : k ≡ 1 → zerosAt l (at + 1) 2 ≡ isPlace l at
   unfolding isPlace placeWritten placeFrom placeFits
-  home-kept e = rw (sym of ∙ e) (and-passed (zerosAt l (at + 1) 2))
+  home-kept e = rw (sym of ∙ e) (sym (and-last (zerosAt l (at + 1) 2)))
 
   pub no-place : (k ≡ 1 → ⊥) → (k ≡ 2 → ⊥) → false ≡ isPlace l at
   unfolding isPlace placeFrom placeFits
@@ -50,7 +50,7 @@ module _ (l : List ℕ) (at k : ℕ) (of : k ≡ field l at 1) where
 
   pub none-kept : k ≡ 0 → zerosAt l (at + 1) 4 ≡ isRegistered l at
   unfolding isRegistered registeredWritten registeredFrom registeredFits
-  none-kept e = rw (sym of ∙ e) (and-passed (zerosAt l (at + 1) 4))
+  none-kept e = rw (sym of ∙ e) (sym (and-last (zerosAt l (at + 1) 4)))
 
   pub no-registered : (k ≡ 0 → ⊥) → (k ≡ 1 → ⊥) → false ≡ isRegistered l at
   unfolding isRegistered registeredWritten

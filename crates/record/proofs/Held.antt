@@ -1,6 +1,6 @@
 -- Addresses that are told apart by their keys.
 use Prim.Native.Nat.{ℕ, _+_, _*_, _≤_, _<_}
-use mathlib.Core.Bool.{Bool, true, false, not}
+use mathlib.Core.Bool.{true, false, not}
 use mathlib.Core.List.{List, []}
 use mathlib.Core.Option.{Option, none, some}
 use mathlib.Core.Path.{_≡_, refl, sym, ap, _∙_}
@@ -12,9 +12,8 @@ use Rattle.octets.specs.Differ.{AllDiffer}
 use Rattle.octets.specs.Digits.{field}
 use Rattle.octets.specs.Row.{row}
 use Rattle.octets.specs.Search.{anyOf, distinct}
-use Rattle.octets.proofs.Apart.{none-alike, row-distinct}
-use Rattle.octets.proofs.Rows.{map-row}
-use Rattle.octets.proofs.Search.{all-each, and-true, lower, or-other}
+use Rattle.octets.proofs.Rows.{map-row, row-distinct, row-fails}
+use Rattle.octets.proofs.Search.{all-each, and-true, lower, never-passes, or-other}
 use Rattle.address.specs.Address.{addressIn, sameAddress, stands}
 use Rattle.address.specs.declared.Address.{Address}
 use Rattle.addresses.specs.Addresses.{addressFrom, isAddress}
@@ -29,11 +28,6 @@ use Rattle.phase.specs.Stage as Stage
 use Rattle.phase.proofs.Stood.{chosen-at, none-at, stage-at}
 use Rattle.record.specs.Branch.{apart, heldIn, Comparable}
 use Rattle.record.specs.Sound.{chosenFree}
-
--- a test that cannot pass fails
-fails : (b : Bool) → (b ≡ true → ⊥) → b ≡ false
-fails true h = absurd (h refl)
-fails false h = refl
 
 module _ (l : List ℕ) (m : ℕ) where
   -- the address of the hold with a number
@@ -57,9 +51,9 @@ module _ (l : List ℕ) (m : ℕ) where
       once : different (heldIn l m) ≡ true
       unfolding different
       once = rw held-row
-          (row-distinct sameAddress held 0 m
-          (λ i j from before last.
-          fails (sameAddress (held i) (held j))
+          (row-distinct held sameAddress 0 m
+          (λ i j before last.
+          never-passes (sameAddress (held i) (held j))
           (λ e.
           let i-in : i < m = omega arith in
           let j-in : j < m = omega arith in
@@ -75,9 +69,9 @@ module _ (l : List ℕ) (m : ℕ) where
               let busy : isIn Stage.idle (phaseFrom l 5) ≡ false = ne-eqb (stageNumber (stageOf (phaseFrom l 5))) 0 (λ e. omega (arith, stage-at l 5 (can .phased), e)) in
               let few : m ≤ 7 = leb-true m 7 (or-other (isIn Stage.idle (phaseFrom l 5)) (leb m 7) (can .room) busy) in
               rw held-row
-              (none-alike sameAddress held (addressFrom l 6) 0 m
+              (row-fails held (sameAddress (addressFrom l 6)) 0 m
               (λ j from last.
-              fails (sameAddress (addressFrom l 6) (held j))
+              never-passes (sameAddress (addressFrom l 6) (held j))
               (λ e.
               let j-in : j < m = omega arith in
               differ j 7 (omega arith) (omega arith)

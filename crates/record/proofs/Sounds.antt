@@ -10,7 +10,7 @@ use borrow.Author.Tests.{le-leb, leb-true, lt-leb, le-ltb, ltb-false, ltb-true, 
 use Rattle.octets.specs.Digits.{field}
 use Rattle.octets.specs.Search.{allOf}
 use Rattle.octets.proofs.Rows.{length-row}
-use Rattle.octets.proofs.Search.{and-left, and-right, and-true, either, or-left, or-other, or-right}
+use Rattle.octets.proofs.Search.{and-last, and-left, and-right, and-true, either, or-left, or-other, or-right}
 use Rattle.address.specs.declared.Hold.{Hold}
 use Rattle.children.specs.Children.{childFits, childIn, childrenFrom, childrenWritten, spisDiffer}
 use Rattle.children.specs.declared.Child.{Child}
@@ -28,10 +28,6 @@ use Rattle.record.specs.Sound.{childrenSound, chosenFree, holdsSound, in
 -- no number is below 1
 none-below : (n : ℕ) → leb n 0 ≡ eqb n 0
 none-below n = either n 0 (λ e. rw e) (λ h. lt-leb n 0 (omega arith) ∙ sym (ne-eqb n 0 h))
-
-and-last : (b : Bool) → b && true ≡ b
-and-last true = refl
-and-last false = refl
 
 -- what the tests of n children and of m holds answer
 abbrev pub ChildrenAre : List ℕ → ℕ → Bool
@@ -152,7 +148,7 @@ module _ (l : List ℕ) where
 
   few-children : childrenWritten l childrenPlace n ≡ true → n ≤ 8
   unfolding childrenWritten
-  few-children e = leb-true n 8 (search (and-left, and-right))
+  few-children e = leb-true n 8 (search and-left)
 
   -- what is left once the other tests are passed
   module _ (k : ℕ) (own : k ≡ field l 0 1) (paired : ltb k 1 || ltb 64 k ≡ false) (stage : ℕ) (staged : stage ≡ field l 5 1)
@@ -200,3 +196,8 @@ hold-octet l e = few-holds l (parts l e .holds-written)
 
 pub child-octet : (l : List ℕ) → isRecord l ≡ true → field l 26 1 ≤ 8
 child-octet l e = few-children l (parts l e .children-written)
+
+-- the line in it is sound
+pub sound-line : (l : List ℕ) → isRecord l ≡ true → lineSound (lineFrom l) ≡ true
+unfolding isRecord
+sound-line l e = search (and-left, and-right)

@@ -1,4 +1,4 @@
--- What the private functions answer, in the terms of `Sound`.
+-- What the private functions ask and answer, in the terms of `Sound`.
 use Prim.Native.Nat.{ℕ, _≤_}
 use mathlib.Core.Bool.{Bool, true, _&&_, _||_}
 use mathlib.Core.List.{List}
@@ -27,7 +27,8 @@ heldIn l m = heldAddresses (holdsFrom l holdsPlace m)
 unfoldable pub apart : List ℕ → ℕ → Bool
 apart l m = different (heldIn l m) && chosenFree (chosen (phaseFrom l phasePlace)) (heldIn l m)
 
--- what is tested before addresses are compared: a phase and m addresses stand there, and a line that is not idle has room for one hold more
+-- what is tested before addresses are compared: a phase stands there and m addresses, at most 8, and a line that is not idle has room for
+-- one hold more
 pub record Comparable (l : List ℕ) (m : ℕ) : Type 0 where
   pub phased : isPhase l phasePlace ≡ true
   pub addressed : all m (hasAddress l holdsPlace) ≡ true

@@ -24,7 +24,6 @@ use phase::Phase;
 use phase::chosen;
 use phase::codec::is_phase;
 use phase::codec::read_phase;
-ghost use mathlib.Core.Bool.{true};
 ghost use mathlib.Core.Path.{_≡_};
 ghost use Prim.Native.Nat.{_+_, _≤_};
 ghost use lib.ListN.{length, take};
@@ -38,12 +37,12 @@ ghost use Rattle.record.specs.Branch.{apart, countsFit, Comparable};
 ghost use Rattle.record.specs.Sound.{chosenFree, isRecord};
 
 // How many holds a line that is not idle has room for.
-const BUSY_HOLDS: usize = 7;
+const BUSY_HOLDS: usize = HOLDS - 1;
 
-// What stands for the key of a chosen address where there is none: any number will do.
-const NO_KEY: u32 = 7;
+// What stands for the key of a chosen address where there is none: the number of its place, as in the other free places.
+const NO_KEY: u32 = BUSY_HOLDS as u32;
 
-// Whether a line whose phase has a number may have m holds of eight, and n children of eight.
+// Whether a line whose phase has a number may have m holds, at most 8, and n children, at most 8.
 fn counts_fit(stage: u64, m: usize, n: usize) -> bool
     ensures { λ r. ⌜ r ≡ countsFit stage m n ⌝ }
 {
@@ -75,8 +74,7 @@ fn chosen_key(b: &[u8]) -> u32
     key_at(b, PHASE_AT + 1)
 }
 
-// Whether the first m holds are for different addresses, none of them the chosen one: keys that all differ are enough, and where two are the
-// same the addresses are compared.
+// Whether the first m holds are for different addresses, none of them the chosen one; they are compared where two keys are the same.
 fn are_apart(b: &[u8], m: usize) -> bool
     requires { ⌜ (recordLength ≤ length (now b)) × Comparable (now b) m ⌝ }
     ensures { λ r. ⌜ r ≡ apart (now (b .entry)) m ⌝ }

@@ -71,7 +71,7 @@ unfolding empty slotsOn
     Parameters.wellFormedIn Parameters.wellFormed Parameters.size
     Packet.code Packet.identifier Packet.lengthField Packet.typeField Packet.vendor Packet.vendorType Packet.message Packet.isSuccess
     Packet.isExpanded Packet.isMessage Packet.fits Packet.isNas Packet.isParameters Packet.isNasRequest Packet.nasPlace
-    Packet.isNasResponse Packet.isRequest Packet.readPacket Packet.nasOf
+    Packet.isNasResponse Packet.isRequest Packet.readPacket
     Response.header Response.block Response.response Response.lentOutOfRange
     Address.isVersion Address.versionOf Address.widthOf Address.numberOf Address.high Address.low Address.addressOf Address.sameAddress Address.stands Address.addressIn
     Address.permitted

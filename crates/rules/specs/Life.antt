@@ -13,7 +13,8 @@ use Rattle.address.specs.declared.Hold.{Hold}
 use Rattle.children.specs.Children.{isOther}
 use Rattle.children.specs.declared.Child.{Child}
 use Rattle.config.specs.Settings.{Settings, configOf}
-use Rattle.eap.specs.Packet.{nasOf, readPacket}
+use Rattle.octets.specs.Part.{part}
+use Rattle.eap.specs.Packet.{readPacket}
 use Rattle.eap.specs.declared.Packet.{Packet}
 use Rattle.eap.specs.declared.Packet.the-variants.{Start, NasRequest, Success, NasResponse, Stop, Other}
 use Rattle.gateway.specs.Gateway.{choose}
@@ -126,7 +127,7 @@ packetTaken x packet (Start i) = keeps x (λ a. Eap a (First i)) Action.AskNas
 packetTaken x packet (NasRequest i at n) = record {
   line = inPhase x (onward (λ a. Eap a (Owed i)) (chosen (x .phase)));
   action = Action.HandUp at n;
-  part = nasOf packet (NasRequest i at n);
+  part = part packet at n;
   written = [];
 }
 packetTaken x packet (Success i) = keeps x Sure Action.SendAuth

@@ -9,7 +9,7 @@ use denote.Enum.Declared.{tagOf}
 use types.Run.{OneOf, miss}
 use Rattle.octets.specs.Part.{padded, part, zeros}
 use Rattle.octets.specs.Refusal.{refusal}
-use Rattle.eap.specs.Packet.{isRequest, nasOf, readPacket}
+use Rattle.eap.specs.Packet.{isRequest, readPacket}
 use Rattle.eap.specs.declared.Packet.{Packet}
 use Rattle.eap.specs.declared.Packet.the-variants.{Start, NasRequest, Success, NasResponse, Stop, Other}
 use Rattle.eap.proofs.Packet.{the-type}
@@ -62,7 +62,7 @@ module _ (l : List ℕ) (x : Line) where
         part = partNamed (numbersOf (packetTaken x [] p .action)) [] [] l;
         written = [];
       }
-  unfolding packetTaken keeps goes partNamed numbersOf twelve lentIn part nasOf
+  unfolding packetTaken keeps goes partNamed numbersOf twelve lentIn part
   named (Start i) = refl
   named (NasRequest i at n) = refl
   named (Success i) = refl

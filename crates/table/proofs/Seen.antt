@@ -10,7 +10,7 @@ use lib.ListN.{length, getD, set, replicate, getD-replicate, length-set}
 use lib.Seq.{getD-set-same, getD-set-other}
 use borrow.Author.Tests.{eq-eqb, ne-eqb, eqb-false}
 use Rattle.octets.specs.Search.{all}
-use Rattle.octets.proofs.Search.{all-fails, either}
+use Rattle.octets.proofs.Search.{all-fails, and-last, either}
 use Rattle.table.specs.Table.{hasPair, lacksPair, pairAt, pairOnce}
 
 -- which pairs the first i records have
@@ -22,10 +22,6 @@ pub none-seen : (l : List ℕ) → Seen l 0 (replicate 65 false)
 unfolding all
 none-seen l = record { sized = refl; flag = λ p from to. getD-replicate 65 p false false (omega arith) }
 
-and-with-true : (b : Bool) → b && true ≡ b
-and-with-true true = refl
-and-with-true false = refl
-
 -- where the next record has the pair p, and where it has another one
 module _ (l : List ℕ) (i p : ℕ) where
   has : pairAt l i ≡ p → all (i + 1) (lacksPair l p) ≡ false
@@ -34,7 +30,7 @@ module _ (l : List ℕ) (i p : ℕ) where
 
   lacks : (pairAt l i ≡ p → ⊥) → all (i + 1) (lacksPair l p) ≡ all i (lacksPair l p)
   unfolding all lacksPair hasPair
-  lacks h = rw (add-one, ne-eqb (pairAt l i) p h) (and-with-true (all i (lacksPair l p)))
+  lacks h = rw (add-one, ne-eqb (pairAt l i) p h) (and-last (all i (lacksPair l p)))
 
 module _ {l : List ℕ} {i : ℕ} {seen : List Bool} (before : Seen l i seen) {pair : ℕ} (own : pair ≡ pairAt l i) (low : pair ≤ 64) where
   -- the flag of the next record's pair tells whether the pair stands twice

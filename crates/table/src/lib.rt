@@ -12,7 +12,7 @@ use record::read_record;
 use record::sound::is_record;
 ghost use mathlib.Core.Bool.{true};
 ghost use mathlib.Core.Path.{_≡_};
-ghost use Prim.Native.Nat.{_+_, _*_, _≤_, _<_};
+ghost use Prim.Native.Nat.{_+_, _*_, _≤_};
 ghost use lib.ListN.{length};
 ghost use Rattle.octets.specs.Part.{zeros, Wrote};
 ghost use Rattle.octets.specs.Search.{least};
@@ -30,8 +30,8 @@ pub const TABLE: usize = RECORDS * RECORD;
 // The number that a free record has in the place of a pair.
 pub const FREE_PAIR: u64 = 0;
 
-// A place for each number from that of a free record to the last pair's.
-const PLACES: usize = PAIRS as usize + 1;
+// A flag for each number from that of a free record to the last pair's.
+const FLAGS: usize = PAIRS as usize + 1;
 
 // The number of the pair of a record.
 fn pair_at(table: &[u8], i: usize) -> u64
@@ -41,7 +41,7 @@ fn pair_at(table: &[u8], i: usize) -> u64
     get(table, RECORD * i, 1)
 }
 
-// The time in a record's octets.
+// The last time of the line in a record.
 pub fn time_at(table: &[u8], i: usize) -> u64
     requires { ⌜ recordLength * i + recordLength ≤ length (now table) ⌝ }
     ensures { λ r. ⌜ r ≡ lineFrom (slot (now (table .entry)) i) .time ⌝ }
@@ -90,7 +90,7 @@ pub fn is_sound(table: &[u8]) -> bool
     if table.len() != TABLE {
         return false;
     }
-    let mut seen = [false; PLACES];
+    let mut seen = [false; FLAGS];
     let mut i = 0;
     while i < RECORDS {
         if !is_slot(table, i) {

@@ -1,6 +1,6 @@
 //! The library and the model side by side: every call is made on both, and their answers and states are compared.
 
-use crate::layout::{self, Line, Pair};
+use crate::layout::{self, Line, Pair, RECORD};
 use crate::model;
 use crate::random::Random;
 use crate::shape::shown_octets;
@@ -41,22 +41,24 @@ impl Both {
         if answer != model {
             return Err(format!("library: {}\nmodel:   {}", shown(&answer), shown(&model)));
         }
-        self.same_state(call, &before)?;
+        self.same_lines()?;
+        only_own_record(call, &before, self.table())?;
+        lowest_is_taken(call, &answer, &before, self.table())?;
         Ok(answer)
     }
 
-    /// The table is sound, has the lines of the model, and differs from what it was in the call's own record alone.
-    fn same_state(&self, call: &Call, before: &[u8]) -> Result<(), String> {
+    /// The table is sound and has the lines of the model.
+    fn same_lines(&self) -> Result<(), String> {
         let mut library = layout::lines(self.table()).ok_or("the table is no longer sound")?;
         library.sort_by_key(|(pair, _)| *pair);
         let model = model::lines(&self.model);
         if let Some((one, other)) = library.iter().zip(&model).find(|(one, other)| one != other) {
             return Err(format!("library has {one:?}\nmodel has   {other:?}"));
         }
-        if library.len() != model.len() {
-            return Err(format!("library has {} lines, model has {}", library.len(), model.len()));
+        match library.len() == model.len() {
+            true => Ok(()),
+            false => Err(format!("library has {} lines, model has {}", library.len(), model.len())),
         }
-        only_own_record(call, before, self.table())
     }
 }
 
@@ -68,13 +70,27 @@ fn only_own_record(call: &Call, before: &[u8], after: &[u8]) -> Result<(), Strin
         }
         Call::List { .. } => 0,
     };
-    let records = before.chunks_exact(layout::RECORD).zip(after.chunks_exact(layout::RECORD));
-    let changed: Vec<_> = records.filter(|(one, other)| one != other).collect();
+    let changed: Vec<_> = records(before, after).filter(|(one, other)| one != other).collect();
     let is_own = |octet: u8| octet == 0 || u64::from(octet) == own;
     match changed.len() <= 1 && changed.iter().all(|(one, other)| is_own(one[0]) && is_own(other[0])) {
         true => Ok(()),
         false => Err("a record of another pair was changed".into()),
     }
+}
+
+/// An open that is accepted takes the free record of the lowest number.
+fn lowest_is_taken(call: &Call, answer: &Answer, before: &[u8], after: &[u8]) -> Result<(), String> {
+    let free = records(before, after).position(|(record, _)| layout::zeros(record));
+    let taken = records(before, after).position(|(one, other)| one != other);
+    match matches!(call, Call::Open { .. }) && answer.refusal == 0 && taken != free {
+        true => Err(format!("open took record {taken:?} and the first free one is {free:?}")),
+        false => Ok(()),
+    }
+}
+
+/// The records of two tables, side by side.
+fn records<'a>(one: &'a [u8], other: &'a [u8]) -> impl Iterator<Item = (&'a [u8], &'a [u8])> {
+    one.chunks_exact(RECORD).zip(other.chunks_exact(RECORD))
 }
 
 /// An answer as a text; zeros at the end of the buffer are left out.

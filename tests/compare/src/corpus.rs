@@ -56,16 +56,16 @@ impl Ready {
             [b"left", text] => Some(self.left(&spelt(text), run)),
             [b"struck", text, octet] => Some(self.struck(&spelt(text), *octets(octet)?.first()?, run)),
             [b"start", text, place, mcc, mnc, version, held] => {
-                Some(made(&holding(held)?, vec![start(&spelt(text), place, (mcc, mnc), number(version)?)?], run))
+                Some(made(&holding(held)?, vec![start(&spelt(text), place, registered(mcc, mnc)?, number(version)?)?], run))
             }
-            [b"country", text, mcc, registered_mcc, mnc, version, held, replied, networks] => {
-                let home = if number(mcc) == Some(1) { b"home\t002\t01\n" } else { b"home\t001\t01\n" };
-                let start = start(home, mcc, (registered_mcc, mnc), number(version)?)?;
+            [b"country", text, visited, mcc, mnc, version, held, replied, networks] => {
+                let home = if number(visited) == Some(1) { b"home\t002\t01\n" } else { b"home\t001\t01\n" };
+                let start = start(home, visited, registered(mcc, mnc)?, number(version)?)?;
                 let (replied, networks) = (number(replied)?, octets(networks)?);
                 Some(made(&holding(held)?, vec![start, Event::Country { replied, networks, text: spelt(text), room: 64 }], run))
             }
             [b"address", version, held, addresses] => {
-                let asked = start(b"home\t001\t01\n", b"home", (b"-", b"-"), number(version)?)?;
+                let asked = start(b"home\t001\t01\n", b"home", None, number(version)?)?;
                 Some(made(&holding(held)?, vec![asked, Event::Address { addresses: octets(addresses)? }], run))
             }
             [b"packet", packet] => Some(self.packet(octets(packet)?, run)),
@@ -85,9 +85,10 @@ impl Ready {
 
     /// A text with every place and in front of every kind of country answer.
     fn config(&self, text: &[u8], run: &mut Run) -> Told {
-        for (place, plmn) in [("unknown", "--"), ("home", "--"), ("310", "--"), ("310", "12"), ("262", "--"), ("999", "12")] {
-            let (mcc, mnc) = if plmn == "--" { (&b"-"[..], &b"-"[..]) } else { (&b"310"[..], &b"2"[..]) };
-            for event in [4, 6].iter().filter_map(|version| start(text, place.as_bytes(), (mcc, mnc), *version)) {
+        let plmn = Some((310, 2));
+        for (place, registered) in [("unknown", None), ("home", None), ("310", None), ("310", plmn), ("262", None), ("999", plmn)] {
+            for version in [4, 6] {
+                let event = start(text, place.as_bytes(), registered, version).expect("each is a place");
                 self.tried(&self.idle, event, run)?;
             }
         }
@@ -100,7 +101,7 @@ impl Ready {
     }
 
     fn at_home(&self, text: Vec<u8>, run: &mut Run) -> Told {
-        let event = start(&text, b"home", (b"-", b"-"), 4).expect("home is a place");
+        let event = start(&text, b"home", None, 4).expect("home is a place");
         self.tried(&self.idle, event, run)
     }
 
@@ -166,16 +167,23 @@ fn made(calls: &[Call], events: Vec<Event>, run: &mut Run) -> Told {
     events.into_iter().try_for_each(|event| history.call(Call::Timed { tenant: PAIR.0, line: PAIR.1, time: 5, event }, run).map(drop))
 }
 
-fn start(text: &[u8], place: &[u8], registered: (&[u8], &[u8]), version: u64) -> Option<Event> {
+/// The registered PLMN, perhaps none, that two fields give; nothing where they give neither.
+fn registered(mcc: &[u8], mnc: &[u8]) -> Option<Option<lent::Plmn>> {
+    match (mcc, mnc) {
+        (b"-", b"-") => Some(None),
+        _ => Some(Some((number(mcc)?, number(mnc)?))),
+    }
+}
+
+/// A start; none where the place is not spelt as requests spell it.
+fn start(text: &[u8], place: &[u8], registered: Option<lent::Plmn>, version: u64) -> Option<Event> {
     let (place, mcc) = match place {
         b"unknown" => (0, 0),
         b"home" => (1, 0),
         mcc => (2, number(mcc)?),
     };
-    let (registered, registered_mcc, registered_mnc) = match registered {
-        (b"-", b"-") => (0, 0, 0),
-        (mcc, mnc) => (1, number(mcc)?, number(mnc)?),
-    };
+    let (registered_mcc, registered_mnc) = registered.unwrap_or((0, 0));
+    let registered = u64::from(registered.is_some());
     Some(Event::Start { place, mcc, registered, registered_mcc, registered_mnc, version, text: text.to_vec(), room: 64 })
 }
 

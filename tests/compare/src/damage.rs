@@ -25,7 +25,6 @@ pub fn systematic(run: &mut Run) -> Result<u64, String> {
     let random = &mut Random::of(run.seed, 5);
     let bases = bases();
     for base in &bases {
-        base.model.as_ref().ok_or("no calls lead to a table that is to be damaged")?;
         judged(base, &base.octets, usize::MAX, random, run)?;
         lengths(base, random, run)?;
         octets(base, random, run)?;

@@ -67,19 +67,27 @@ fn told(calls: &[Call], seed: u64, what: &str) -> String {
     }
     match deviation(&calls, seed) {
         Some(_) => told,
-        None => told + "  not seen again:\n" + &indented(what),
+        None => told + &seen(None, what),
+    }
+}
+
+/// What is seen again of a deviation, or what was seen first where nothing is.
+pub fn seen(again: Option<String>, first: &str) -> String {
+    match again {
+        Some(what) => indented(&what),
+        None => "  not seen again:\n".to_string() + &indented(first),
     }
 }
 
 /// A text of some lines below what it is about.
-pub fn indented(text: &str) -> String {
+fn indented(text: &str) -> String {
     text.lines().map(|line| format!("      {line}\n")).collect()
 }
 
 /// Makes a call without a table on both sides. A response that was written is read back with the same fields.
 pub fn packet(call: PacketCall, run: &mut Run) -> Result<PacketAnswer, String> {
     let noise = Random::of(run.seed, run.counts.calls);
-    let answer = packet_call(&call, noise.clone()).map_err(|_| packet_told(call.clone(), noise))?;
+    let answer = packet_call(&call, noise.clone()).map_err(|what| packet_told(call.clone(), noise, &what))?;
     run.counts.returned(call.name(), answer.refusal);
     if let (PacketCall::WriteResponse { .. }, 0) = (&call, answer.refusal) {
         let written = answer.buffer[..(answer.fields[4] + answer.fields[5]) as usize].to_vec();
@@ -90,8 +98,8 @@ pub fn packet(call: PacketCall, run: &mut Run) -> Result<PacketAnswer, String> {
     Ok(answer)
 }
 
-fn packet_told(call: PacketCall, noise: Random) -> String {
+fn packet_told(call: PacketCall, noise: Random, what: &str) -> String {
     let calls = shrunk(vec![call], |calls| calls.iter().any(|call| packet_call(call, noise.clone()).is_err()));
-    let said = packet_call(&calls[0], noise).err().unwrap_or_default();
-    format!("deviation of a call without a table:\n  {}\n{}", calls[0].shown(), indented(&said))
+    let again = packet_call(&calls[0], noise).err();
+    format!("deviation of a call without a table:\n  {}\n{}", calls[0].shown(), seen(again, what))
 }

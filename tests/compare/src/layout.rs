@@ -66,22 +66,7 @@ pub struct Line {
 pub type Pair = (u64, u64);
 
 impl Phase {
-    /// The word of the listing.
-    pub fn word(&self) -> &'static str {
-        match self {
-            Phase::Idle => "idle",
-            Phase::Country(_) => "country",
-            Phase::Name(_) => "name",
-            Phase::Chosen(_) => "chosen",
-            Phase::Init(_) => "init",
-            Phase::Auth(_) => "auth",
-            Phase::Eap(..) => "eap",
-            Phase::Sure(_) => "sure",
-            Phase::Live(_) => "live",
-        }
-    }
-
-    pub fn chosen(&self) -> Option<Address> {
+    fn chosen(&self) -> Option<Address> {
         match *self {
             Phase::Idle | Phase::Country(_) | Phase::Name(_) => None,
             Phase::Chosen(address) | Phase::Init(address) | Phase::Auth(address) => Some(address),
@@ -206,7 +191,7 @@ fn number(octets: &[u8]) -> u64 {
     octets.iter().fold(0, |number, &octet| number << 8 | u64::from(octet))
 }
 
-fn zeros(octets: &[u8]) -> bool {
+pub fn zeros(octets: &[u8]) -> bool {
     octets.iter().all(|&octet| octet == 0)
 }
 

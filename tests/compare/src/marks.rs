@@ -3,7 +3,7 @@
 use crate::layout::{Line, Phase, Turn};
 use reference::{Answer, Call, Event};
 
-pub const ALL: [&str; 17] = [
+pub const ALL: [&str; 19] = [
     "calls with a full table",
     "calls with eight holds on a line",
     "calls with eight children on a line",
@@ -20,13 +20,19 @@ pub const ALL: [&str; 17] = [
     "later replies without parameters",
     UNSOUND,
     SOUND,
-    UNREACHED,
+    FIRST_ALONE,
+    SECOND_ALONE,
+    OWN,
 ];
 
-/// Tables that are damaged, by what is known of them.
+/// Tables that are damaged.
 pub const UNSOUND: &str = "calls on unsound tables";
 pub const SOUND: &str = "calls on changed tables that are sound";
-pub const UNREACHED: &str = "calls on sound tables that no calls lead to";
+
+/// Accepted calls of pairs of histories.
+pub const FIRST_ALONE: &str = "calls of others accepted in the first history alone";
+pub const SECOND_ALONE: &str = "calls of others accepted in the second history alone";
+pub const OWN: &str = "calls of a tenant accepted in both histories while their tables differ";
 
 /// The marks of a call, by the line before it and all lines after it.
 pub fn of(call: &Call, answer: &Answer, before: Option<&Line>, after: &[Line]) -> Vec<&'static str> {

@@ -3,7 +3,8 @@
 
 use crate::both::shown;
 use crate::drive::Driver;
-use crate::history::{indented, Run, Told};
+use crate::history::{seen, Run, Told};
+use crate::marks;
 use crate::random::Random;
 use crate::shape::{Shape, Shaped};
 use crate::shrink::shrunk;
@@ -44,13 +45,15 @@ fn is_kept(call: &Call, tenant: u64) -> bool {
 /// Both histories so far.
 struct Twins {
     tenant: u64,
+    seed: u64,
     first: Library,
     second: Library,
+    steps: Vec<Step>,
 }
 
 impl Twins {
     fn new(tenant: u64, seed: u64) -> Twins {
-        Twins { tenant, first: Library::empty(seed), second: Library::empty(!seed) }
+        Twins { tenant, seed, first: Library::empty(seed), second: Library::empty(!seed), steps: Vec::new() }
     }
 
     /// Makes a call where it belongs; the answers that were given, or in what they differ.
@@ -67,49 +70,61 @@ impl Twins {
             }
         }
     }
+
+    /// The mark of an accepted call.
+    fn mark(&self, step: &Step) -> Option<&'static str> {
+        let differ = self.first.table() != self.second.table();
+        match step.made {
+            Where::First => Some(marks::FIRST_ALONE),
+            Where::Second => Some(marks::SECOND_ALONE),
+            Where::Both => (differ && tenant_of(&step.call) == self.tenant).then_some(marks::OWN),
+        }
+    }
+
+    /// Makes one call more and counts it. A difference is shrunk and told.
+    fn step(&mut self, made: Where, call: Call, run: &mut Run) -> Told {
+        let step = Step { made, call };
+        self.steps.push(step.clone());
+        let answers = self.make(&step).map_err(|what| told(&self.steps, self.tenant, self.seed, &what))?;
+        answers.iter().for_each(|answer| run.counts.returned(step.name(), answer.refusal));
+        let accepted = answers.iter().all(|answer| answer.refusal == 0);
+        self.mark(&step).filter(|_| accepted).into_iter().for_each(|mark| run.counts.marked(mark));
+        Ok(())
+    }
+
+    /// A call of the first history. Where both have it, calls of others that the second alone has come first.
+    fn go_on(&mut self, driver: &Driver, random: &mut Random, run: &mut Run) -> Told {
+        let (tenant, own) = (self.tenant, random.chance(40));
+        let Some(call) = drawn(driver, self.first.table(), random, |call| (tenant_of(call) == tenant) == own) else {
+            return Ok(());
+        };
+        if !is_kept(&call, tenant) {
+            return self.step(Where::First, call, run);
+        }
+        for _ in 0..random.index(3) {
+            if let Some(other) = drawn(driver, self.second.table(), random, |call| !is_kept(call, tenant)) {
+                self.step(Where::Second, other, run)?;
+            }
+        }
+        self.step(Where::Both, call, run)
+    }
 }
 
-/// One pair of histories, made as it goes: the second gets new calls of the other tenants in front of each call that both have.
+/// A call on a table that is such as is wanted, where one is found.
+fn drawn(driver: &Driver, table: &[u8], random: &mut Random, wanted: impl Fn(&Call) -> bool) -> Option<Call> {
+    (0..40).map(|_| driver.call(table, random)).find(wanted)
+}
+
+/// One pair of histories, made as it goes.
 pub fn one(index: u64, run: &mut Run) -> Told {
     let random = &mut Random::of(run.seed, index);
     let driver = Driver::new(random);
     let tenant = random.pick(&driver.tenants());
-    let seed = random.draw();
-    let mut twins = Twins::new(tenant, seed);
-    let mut steps: Vec<Step> = Vec::new();
-    let mut next: Vec<Step> = driver.opens().into_iter().map(|call| Step { made: Where::Both, call }).collect();
-    for _ in 0..50 + random.below(250) {
-        for step in next.drain(..) {
-            let made = twins.make(&step);
-            steps.push(step);
-            let Ok(answers) = made else {
-                return Err(told(steps, tenant, seed));
-            };
-            let name = steps[steps.len() - 1].name();
-            answers.iter().for_each(|answer| run.counts.returned(name, answer.refusal));
-        }
-        next = next_steps(&driver, &twins, random);
+    let mut twins = Twins::new(tenant, random.draw());
+    for call in driver.opens() {
+        twins.step(Where::Both, call, run)?;
     }
-    Ok(())
-}
-
-/// A call of the first history. Where both have it, calls of others that the second alone has come first.
-fn next_steps(driver: &Driver, twins: &Twins, random: &mut Random) -> Vec<Step> {
-    let own = random.chance(40);
-    let drawn = |table: &[u8], random: &mut Random, wanted: &dyn Fn(&Call) -> bool| {
-        (0..40).map(|_| driver.call(table, random)).find(|call| wanted(call))
-    };
-    let Some(call) = drawn(twins.first.table(), random, &|call| (tenant_of(call) == twins.tenant) == own) else {
-        return Vec::new();
-    };
-    if !is_kept(&call, twins.tenant) {
-        return vec![Step { made: Where::First, call }];
-    }
-    let count = random.index(3);
-    let others = (0..count).filter_map(|_| drawn(twins.second.table(), random, &|call| !is_kept(call, twins.tenant)));
-    let mut steps: Vec<Step> = others.map(|call| Step { made: Where::Second, call }).collect();
-    steps.push(Step { made: Where::Both, call });
-    steps
+    (0..50 + random.below(250)).try_for_each(|_| twins.go_on(&driver, random, run))
 }
 
 /// In what the tenant's answers differ, if they do and the two histories are such a pair.
@@ -121,8 +136,8 @@ fn difference(steps: &[Step], tenant: u64, seed: u64) -> Option<String> {
     steps.iter().find_map(|step| twins.make(step).err())
 }
 
-fn told(steps: Vec<Step>, tenant: u64, seed: u64) -> String {
-    let steps = shrunk(steps, |steps| difference(steps, tenant, seed).is_some());
+fn told(steps: &[Step], tenant: u64, seed: u64, what: &str) -> String {
+    let steps = shrunk(steps.to_vec(), |steps| difference(steps, tenant, seed).is_some());
     let mut told = format!("deviation between two histories that tenant {tenant} must not tell apart:\n");
     for step in &steps {
         let place = match step.made {
@@ -132,6 +147,5 @@ fn told(steps: Vec<Step>, tenant: u64, seed: u64) -> String {
         };
         told += &format!("  {place} {}\n", step.call.shown());
     }
-    let what = difference(&steps, tenant, seed).unwrap_or_default();
-    told + &indented(&what)
+    told + &seen(difference(&steps, tenant, seed), what)
 }

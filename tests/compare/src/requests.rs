@@ -11,23 +11,25 @@ pub fn no_request(file: &str, line: usize) -> String {
     format!("corpus/{file}, line {line}: no request")
 }
 
+/// A number of decimal digits alone.
 pub fn number(digits: &[u8]) -> Option<u64> {
-    std::str::from_utf8(digits).ok()?.parse().ok()
+    let spelt = std::str::from_utf8(digits).ok().filter(|_| digits.iter().all(u8::is_ascii_digit));
+    spelt?.parse().ok()
 }
 
 /// Octets as pairs of hexadecimal digits, each perhaps with `*` and four digits that say how often it is repeated.
 pub fn octets(spelt: &[u8]) -> Option<Vec<u8>> {
+    let digit = |digit: u8| char::from(digit).to_digit(16);
     let mut octets = Vec::new();
-    let mut rest = std::str::from_utf8(spelt).ok()?;
-    while !rest.is_empty() {
-        let octet = u8::from_str_radix(rest.get(..2)?, 16).ok()?;
-        rest = &rest[2..];
-        let mut count = 1;
-        if rest.starts_with('*') {
-            count = rest.get(1..5)?.parse().ok()?;
-            rest = &rest[5..];
-        }
+    let mut rest = spelt;
+    while let [high, low, behind @ ..] = rest {
+        let octet = (digit(*high)? << 4 | digit(*low)?) as u8;
+        let (count, behind) = match behind {
+            [b'*', behind @ ..] => (number(behind.get(..4)?)? as usize, &behind[4..]),
+            _ => (1, behind),
+        };
         octets.resize(octets.len() + count, octet);
+        rest = behind;
     }
-    Some(octets)
+    rest.is_empty().then_some(octets)
 }

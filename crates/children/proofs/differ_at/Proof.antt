@@ -9,7 +9,7 @@ use borrow.Author.Needs.{needs}
 use borrow.Author.Tests.{ne-eqb}
 use Rattle.octets.specs.Differ.{AllDiffer}
 use Rattle.octets.specs.Digits.{field}
-use Rattle.octets.proofs.Apart.{row-distinct}
+use Rattle.octets.proofs.Rows.{row-distinct}
 use Rattle.children.specs.Children.{childFrom, childIn, childrenFrom, isSpi, sameSpi, spisDiffer}
 use Rattle.children.proofs.differ_at.Statement.{statement}
 use Rattle.children.proofs.differ_at.Tie as tie
@@ -18,14 +18,14 @@ module _ (l : List ℕ) (at n : ℕ) where
   -- one child at most
   few : n < 2 → true ≡ spisDiffer (childrenFrom l at n)
   unfolding spisDiffer childrenFrom
-  few h = sym (row-distinct sameSpi (childIn l at) 0 n (λ i j from before within. absurd (omega arith)))
+  few h = sym (row-distinct (childIn l at) sameSpi 0 n (λ i j before within. absurd (omega arith)))
 
   -- no two SPIs are the same number
   apart : n ≤ 8 → (w : List ℕ) → ((i : ℕ) → i < n → getD w i 0 ≡ field l (at + 5 * i) 4) → AllDiffer w → true ≡ spisDiffer (childrenFrom l at n)
   unfolding spisDiffer childrenFrom sameSpi isSpi childIn childFrom
   apart most w are differ =
-      sym (row-distinct sameSpi (childIn l at) 0 n
-      (λ i j from before within.
+      sym (row-distinct (childIn l at) sameSpi 0 n
+      (λ i j before within.
       ne-eqb (field l (at + 5 * i) 4) (field l (at + 5 * j) 4) (λ e. differ i j before (omega arith) (are i (omega arith) ∙ e ∙ sym (are j (omega arith))))))
 
 returns : tie.Need-returns

@@ -3,6 +3,7 @@ use mathlib.Core.Path.{refl, ap, _∙_}
 use borrow.Author.Needs.{needs}
 use Rattle.octets.specs.Part.{zeros}
 use Rattle.record.specs.Sound.{lineSound}
+use Rattle.record.proofs.Sounds.{sound-line}
 use Rattle.ike.specs.Events.{eventOf}
 use Rattle.calls.proofs.Timed.{never-short, no-buffer, taken, turned-away}
 use Rattle.calls.proofs.signalling.on_line.Statement.{statement}
@@ -29,7 +30,7 @@ step-of-requires : tie.Need-step-of-requires
 step-of-requires c κs =
     let first = c .before .before in
     let read = c .read-slot .ensures in
-    (read .1, ap lineSound (read .0) ∙ first .before .before .enter .ensures .passes (first .if1 .left) .sound)
+    (read .1, ap lineSound (read .0) ∙ sound-line _ (first .before .before .enter .ensures .passes (first .if1 .left) .used))
 
 settle-requires : tie.Need-settle-requires
 settle-requires c κs =

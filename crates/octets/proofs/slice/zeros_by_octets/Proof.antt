@@ -1,8 +1,8 @@
 -- `octets::slice::zeros_by_octets` meets its contract. The loop's invariant: the bits so far and the octets that are left decide.
 use Prim.Native.Nat.{ℕ, suc, _+_, _-_, _≤_, _<_}
-use mathlib.Core.Bool.{Bool, true, false, _&&_, and-assoc}
+use mathlib.Core.Bool.{Bool, _&&_, and-assoc}
 use mathlib.Core.List.{List}
-use mathlib.Core.Path.{_≡_, refl, sym, ap, _∙_}
+use mathlib.Core.Path.{_≡_, sym, ap, _∙_}
 use native.Mathlib.Omega.{arith}
 use native.Mathlib.Numerals.{add-one}
 use lib.Bits.{bitOr}
@@ -13,6 +13,7 @@ use denote.Ref.{now}
 use borrow.Author.Needs.{needs}
 use Rattle.octets.specs.Part.{part, zeros, same, zerosAt}
 use Rattle.octets.proofs.Ors.{or-none}
+use Rattle.octets.proofs.Search.{and-last}
 use Rattle.octets.proofs.Zeros.{zeros-done}
 use Rattle.octets.proofs.slice.zeros_by_octets.Statement.{statement}
 use Rattle.octets.proofs.slice.zeros_by_octets.Tie as tie
@@ -33,10 +34,6 @@ next l i end within h =
 -- one octet more
 taken : (b x : ℕ) (rest : Bool) → eqb b 0 && (eqb x 0 && rest) ≡ eqb (bitOr b x) 0 && rest
 taken b x rest = sym (and-assoc (eqb b 0) (eqb x 0) rest) ∙ ap (λ (t : Bool). t && rest) (sym (or-none b x))
-
-last : (b : Bool) → b && true ≡ b
-last true = refl
-last false = refl
 
 add-end : tie.Need-add-end Inv-loop μ-loop
 add-end c = search needs
@@ -68,7 +65,7 @@ returns c =
     let a = c .before .before .args in
     let at-loop = c .before .loop in
     let none-left = zeros-done (now (a .s)) (at-loop .i) (a .at + a .n) (c .loop-test .left) in
-    sym (at-loop .inv .2 ∙ ap (λ (t : Bool). eqb (at-loop .bits) 0 && t) none-left ∙ last (eqb (at-loop .bits) 0))
+    sym (at-loop .inv .2 ∙ ap (λ (t : Bool). eqb (at-loop .bits) 0 && t) none-left ∙ and-last (eqb (at-loop .bits) 0))
 
 pub zeros-by-octets-spec : {M : Type 1} → statement M
 zeros-by-octets-spec =
