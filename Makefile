@@ -37,7 +37,7 @@ example: $(example)
 # Rust's installer puts cargo into a folder that a plain PATH may not have.
 compare mutants: export PATH := $(PATH):$(or $(CARGO_HOME),$(HOME)/.cargo)/bin
 
-# The library against the second program, for so many seconds.
+# The library against the second program, for so many seconds behind what is always tried.
 SECONDS = 60
 
 compare: $(archive)
@@ -62,8 +62,8 @@ bench: $(bench)
 ROUNDS = 400
 
 speed: $(benches)
-	for each in $(benches); do $$each --csv --calls 0 --rounds $(ROUNDS) || exit 1; done >target/bench/times.csv
 	tests/bench/count.sh $(archive) >target/bench/counts.csv
+	for each in $(benches); do $$each --csv --calls 0 --rounds $(ROUNDS) || exit 1; done >target/bench/times.csv
 	python3 tests/bench/plot.py target/bench/times.csv target/bench/counts.csv docs/speed.svg
 
 test:

@@ -104,9 +104,9 @@ enum scal_refusal {
     SCAL_REFUSED_NOT_OPEN = 5,   /* the pair is not open */
     SCAL_REFUSED_FULL = 6,       /* all 32 records are taken */
     SCAL_REFUSED_EARLY = 7,      /* the time is earlier than the line's last accepted one */
-    SCAL_REFUSED_RANGE = 8,      /* a number or a count is out of its range */
-    SCAL_REFUSED_MALFORMED = 9,  /* a configuration text, AN-parameters or a packet is not well formed */
-    SCAL_REFUSED_PHASE = 10,     /* the event is not allowed in the line's phase */
+    SCAL_REFUSED_RANGE = 8,      /* a number, a count or a length is out of its range */
+    SCAL_REFUSED_MALFORMED = 9,  /* a configuration text, AN-parameters or a packet is not well formed, or is none that the call reads */
+    SCAL_REFUSED_PHASE = 10,     /* the event is not allowed in the line's phase, or not with this SPI, identifier or authentication */
     SCAL_REFUSED_SPI = 11,       /* the SPI is on this line already */
     SCAL_REFUSED_CHILDREN = 12,  /* eight children stand */
     SCAL_REFUSED_HOLDS = 13      /* eight holds are in force */
@@ -124,9 +124,9 @@ static inline const char *scal_refusal_name(uint64_t refusal)
     case SCAL_REFUSED_NOT_OPEN: return "the pair is not open";
     case SCAL_REFUSED_FULL: return "all 32 records are taken";
     case SCAL_REFUSED_EARLY: return "the time is earlier than the line's last accepted one";
-    case SCAL_REFUSED_RANGE: return "a number or a count is out of its range";
-    case SCAL_REFUSED_MALFORMED: return "a text, AN-parameters or a packet is not well formed";
-    case SCAL_REFUSED_PHASE: return "the event is not allowed in this phase";
+    case SCAL_REFUSED_RANGE: return "a number, a count or a length is out of its range";
+    case SCAL_REFUSED_MALFORMED: return "a text, AN-parameters or a packet is not well formed, or is none that the call reads";
+    case SCAL_REFUSED_PHASE: return "the event is not allowed in this phase, or not with this SPI, identifier or authentication";
     case SCAL_REFUSED_SPI: return "the SPI is on this line already";
     case SCAL_REFUSED_CHILDREN: return "eight children stand";
     case SCAL_REFUSED_HOLDS: return "eight holds are in force";

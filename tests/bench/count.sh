@@ -7,7 +7,7 @@ export LC_ALL=C
 archive=$(realpath "${1:-$(dirname "$0")/../../target/staticlib/libscaltrovina.a}") || exit 2
 cd "$(dirname "$0")/../.." || exit 2
 if ! command -v valgrind >/dev/null; then
-    echo 'count.sh: valgrind is not installed, so no instructions were counted' >&2
+    echo 'count.sh: install valgrind, which counts the instructions' >&2
     exit 3
 fi
 work=$(mktemp -d) || exit 2
