@@ -1,32 +1,41 @@
--- The key of an address: computed from its halves, and the same for the same address.
-use Prim.Native.Nat.{ℕ, _+_, _-_, _*_, _/_, _%_, _^_, _≤_, _<_}
+-- The key of an address: computed from two words, and the same for the same address.
+use Prim.Native.Nat.{ℕ, _+_, _-_, _*_, _^_, _≤_}
 use mathlib.Core.Bool.{true}
 use mathlib.Core.List.{List}
-use mathlib.Core.Path.{_≡_, sym, ap, ap₂, _∙_, subst}
+use mathlib.Core.Path.{_≡_, refl, sym, ap, ap₂, _∙_, subst}
 use native.Mathlib.Nat.{add-zero}
 use native.Mathlib.Omega.{arith}
 use lib.Arith.{digits-div, digits-mod}
 use lib.Bits.{bitXor}
 use lib.ListN.{length}
-use Rattle.octets.specs.Digits.{field, number}
-use Rattle.octets.specs.Part.{zeros, zerosAt}
-use Rattle.octets.proofs.Fields.{field-halves, number-zeros, zeros-back}
+use Rattle.octets.specs.Digits.{field, low, number}
+use Rattle.octets.specs.Laws.{below}
+use Rattle.octets.specs.Part.{part, zerosAt}
+use Rattle.octets.specs.Search.{allOf}
+use Rattle.octets.proofs.Fields.{be-part, field-halves, number-zeros, part-below, zeros-back}
 use Rattle.octets.proofs.Search.{and-right}
 use Rattle.address.specs.Address.{isVersion, numberOf, sameAddress, versionOf, widthOf}
 use Rattle.address.proofs.Numbers.{number-kept, same-parts, width-kept, width-most}
 use Rattle.addresses.specs.Addresses.{addressFrom, isAddress, versionFrom}
-use Rattle.addresses.specs.Keys.{folded, keyAt}
+use Rattle.addresses.specs.Keys.{folded, keyAt, swapped}
 use Rattle.addresses.proofs.Versions.{halves}
 
--- a number of two halves is folded to one half
-folded-halves : (k x y : ℕ) → y < 2 ^ k → folded k (x * 2 ^ k + y) ≡ bitXor x y
-unfolding folded
-folded-halves k x y small = ap₂ bitXor (digits-div x small) (digits-mod x small)
+-- eight octets are a word
+abbrev Word : List ℕ → ℕ → ℕ → Type 0
+Word l at x = (x ≡ low (part l at 8)) × (allOf (below 256) (part l at 8) ≡ true)
 
-pub key-halves : (l : List ℕ) (at : ℕ) → at + 17 ≤ length l → (x y : ℕ) → x ≡ field l (at + 1) 8 → y ≡ field l (at + 9) 8 → y < 256 ^ 8
-    → bitXor (bitXor x y / 4294967296) (bitXor x y % 4294967296) ≡ keyAt l at
+-- it is the number that they say, swapped
+word-swapped : (l : List ℕ) (at x : ℕ) → at + 8 ≤ length l → Word l at x → x ≡ swapped (field l at 8)
+unfolding swapped
+word-swapped l at x fits w = w .0 ∙ ap low (sym (be-part l at 8 fits (w .1)))
+
+pub key-words : (l : List ℕ) (at : ℕ) → at + 17 ≤ length l → (x y : ℕ) → Word l (at + 1) x → Word l (at + 9) y → bitXor x y ≡ keyAt l at
 unfolding keyAt folded
-key-halves l at fits x y e f small = sym (ap (folded 32) (ap (folded 64) (halves l at fits x y e f) ∙ folded-halves 64 x y small))
+key-words l at fits x y p q =
+    let high = field l (at + 1) 8 in
+    let small = part-below l (at + 9) 8 (omega arith) (q .1) in
+    ap₂ bitXor (word-swapped l (at + 1) x (omega arith) p) (word-swapped l (at + 9) y (omega arith) q)
+    ∙ sym (ap folded (halves l at fits high (field l (at + 9) 8) refl refl) ∙ ap₂ (λ (h k : ℕ). bitXor (swapped h) (swapped k)) (digits-div high small) (digits-mod high small))
 
 -- the octets behind the version are the number's, and zeros below it
 wide-number : (l : List ℕ) (at n : ℕ) → at + 17 ≤ length l → n ≤ 16 → zerosAt l (at + (1 + n)) (16 - n) ≡ true
@@ -57,5 +66,5 @@ module _ (l : List ℕ) where
     unfolding keyAt
     alike-key e =
         let parts = same-parts (addressFrom l p) (addressFrom l q) e in
-        ap (λ (x : ℕ). folded 32 (folded 64 x))
+        ap folded
         (behind-version p fits-p is-p ∙ ap₂ (λ (x v : ℕ). x * 256 ^ (16 - widthOf v)) (parts .1) (parts .0) ∙ sym (behind-version q fits-q is-q))

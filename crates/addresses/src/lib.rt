@@ -2,6 +2,7 @@
 use address::Address;
 use octets::number::get;
 use octets::number::put;
+use octets::slice::word;
 use octets::slice::zeros_at;
 ghost use mathlib.Core.Path.{_≡_};
 ghost use Prim.Native.Nat.{_+_, _≤_};
@@ -38,12 +39,11 @@ pub fn is_address(list: &[u8], at: usize) -> bool
 }
 
 // The key of the address at a place.
-pub fn key_at(list: &[u8], at: usize) -> u32
+pub fn key_at(list: &[u8], at: usize) -> u64
     requires { ⌜ at + addressLength ≤ length (now list) ⌝ }
     ensures { λ r. ⌜ r ≡ keyAt (now (list .entry)) at ⌝ }
 {
-    let both = get(list, at + 1, 8) ^ get(list, at + 9, 8);
-    ((both / 4294967296) as u32) ^ ((both % 4294967296) as u32)
+    word(list, at + 1) ^ word(list, at + 9)
 }
 
 // Stores an address at a place.

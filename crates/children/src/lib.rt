@@ -83,17 +83,6 @@ pub fn put_children(b: &mut [u8], at: usize, list: [Child; CHILDREN], n: usize)
     }
 }
 
-// Whether at most 8 children stand at a place, and zeros behind them.
-fn are_written(b: &[u8], at: usize, n: usize) -> bool
-    requires { ⌜ at + childrenRoom ≤ length (now b) ⌝ }
-    ensures { λ r. ⌜ r ≡ childrenWritten (now (b .entry)) at n ⌝ }
-{
-    if CHILDREN < n {
-        return false;
-    }
-    zeros_at(b, at + LENGTH * n, CHILDREN_ROOM - LENGTH * n)
-}
-
 // Whether an SPI stands among the first n children, from a place on.
 pub fn has_spi(list: [Child; CHILDREN], from: usize, n: usize, spi: u64) -> bool
     requires { ⌜ (from ≤ n) × (n ≤ mostChildren) ⌝ }
@@ -150,14 +139,14 @@ fn fit_at(b: &[u8], at: usize, n: usize) -> bool
 }
 
 // The SPIs of the first n children at a place; each place behind them has its own number.
-fn spis(b: &[u8], at: usize, n: usize) -> [u32; CHILDREN]
+fn spis(b: &[u8], at: usize, n: usize) -> [u64; CHILDREN]
     requires { ⌜ (at + childrenRoom ≤ length (now b)) × (n ≤ mostChildren) ⌝ }
     ensures { λ r. ⌜ ((i : ℕ) → i < n → getD r i 0 ≡ field (now (b .entry)) (at + childLength * i) 4) ⌝ }
 {
-    let mut w = [0u32; CHILDREN];
+    let mut w = [0u64; CHILDREN];
     let mut i = 0;
     while i < CHILDREN {
-        w[i] = pick(i < n, get(b, at + LENGTH * i, 4) as u32, i as u32);
+        w[i] = pick(i < n, get(b, at + LENGTH * i, 4), i as u64);
         i += 1;
     }
     w
@@ -187,10 +176,13 @@ pub fn are_sound(b: &[u8], at: usize, n: usize) -> bool
         let child = read_child(b, at);
         return child_fits(child) & zeros_at(b, at + LENGTH, CHILDREN_ROOM - LENGTH);
     }
-    if !are_written(b, at, n) {
+    if CHILDREN < n {
         return false;
     }
     if !fit_at(b, at, n) {
+        return false;
+    }
+    if !zeros_at(b, at + LENGTH * n, CHILDREN_ROOM - LENGTH * n) {
         return false;
     }
     differ_at(b, at, n)

@@ -140,15 +140,15 @@ pub fn stand_in_force(b: &[u8], at: usize, n: usize, time: u64) -> bool
 }
 
 // The keys of the first n addresses held, and the key `other` in the last of the eight places where that is free.
-pub fn keys(b: &[u8], at: usize, n: usize, other: u32) -> [u32; HOLDS]
+pub fn keys(b: &[u8], at: usize, n: usize, other: u64) -> [u64; HOLDS]
     requires { ⌜ (at + holdsRoom ≤ length (now b)) × (n ≤ mostHolds) ⌝ }
     ensures { λ r. ⌜ KeysOf (now (b .entry)) at n other r ⌝ }
 {
-    let mut list = [0u32; HOLDS];
+    let mut list = [0u64; HOLDS];
     let mut i = 0;
     while i < HOLDS {
         let key = key_at(b, at + LENGTH * i);
-        let free = pick(i == HOLDS - 1, other, i as u32);
+        let free = pick(i == HOLDS - 1, other, i as u64);
         list[i] = pick(i < n, key, free);
         i += 1;
     }

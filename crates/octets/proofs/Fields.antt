@@ -30,18 +30,24 @@ module _ (p : ℕ → Bool) where
   unfolding part
   allOf-part l at n h = allOf-take n (drop at l) (allOf-drop at l h)
 
-module _ (l : List ℕ) (octets : allOf (below 256) l ≡ true) (at n : ℕ) (fits : at + n ≤ length l) where
+module _ (l : List ℕ) (at n : ℕ) (fits : at + n ≤ length l) (octets : allOf (below 256) (part l at n) ≡ true) where
   -- n octets say a number of n octets
-  pub field-below : field l at n < 256 ^ n
+  pub part-below : field l at n < 256 ^ n
   unfolding field
-  field-below =
-      subst (λ (k : ℕ). field l at n < 256 ^ k) (length-part l at n fits) (number-below 256 (part l at n) (allOf-part (below 256) l at n octets))
+  part-below = subst (λ (k : ℕ). field l at n < 256 ^ k) (length-part l at n fits) (number-below 256 (part l at n) octets)
 
   -- a field is written as its octets
-  pub be-field : be n (field l at n) ≡ part l at n
+  pub be-part : be n (field l at n) ≡ part l at n
   unfolding be field
-  be-field =
-      ap (λ (k : ℕ). be k (field l at n)) (sym (length-part l at n fits)) ∙ digits-number 256 (part l at n) (allOf-part (below 256) l at n octets)
+  be-part = ap (λ (k : ℕ). be k (field l at n)) (sym (length-part l at n fits)) ∙ digits-number 256 (part l at n) octets
+
+-- the same in a list of octets
+module _ (l : List ℕ) (octets : allOf (below 256) l ≡ true) (at n : ℕ) (fits : at + n ≤ length l) where
+  pub field-below : field l at n < 256 ^ n
+  field-below = part-below l at n fits (allOf-part (below 256) l at n octets)
+
+  pub be-field : be n (field l at n) ≡ part l at n
+  be-field = be-part l at n fits (allOf-part (below 256) l at n octets)
 
 -- a number that a field says is written as the field's octets
 pub number-back : (l : List ℕ) → allOf (below 256) l ≡ true → (at w x : ℕ) → at + w ≤ length l → field l at w ≡ x → be w x ≡ part l at w

@@ -17,6 +17,11 @@ numberFrom b x (d ∷ ds) = numberFrom b (x * b + d) ds
 unfoldable pub number : ℕ → List ℕ → ℕ
 number b ds = numberFrom b 0 ds
 
+-- the number that octets say, the least significant first
+unfoldable pub low : List ℕ → ℕ
+low [] = 0
+low (d ∷ ds) = d + low ds * 256
+
 -- the highest number of one octet
 abbrev pub mostOctet : ℕ
 mostOctet = 255

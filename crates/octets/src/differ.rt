@@ -1,15 +1,15 @@
 // Numbers in eight places, put there and compared with each other in few instructions.
-ghost use mathlib.Core.Bool.{true, cond};
+ghost use mathlib.Core.Bool.{cond};
 ghost use mathlib.Core.Path.{_≡_};
 ghost use Prim.Native.Nat.{_≤_};
-ghost use Rattle.octets.specs.Differ.{differsOn, places, AllDiffer, Twice};
+ghost use Rattle.octets.specs.Differ.{allDiffer, differsOn, places, Twice};
 ghost use Rattle.octets.specs.Search.{all};
 
 // How many places there are: as many as a line has room for holds, and for children.
 const PLACES: usize = 8;
 
 // The first of two numbers where a test passes, else the second.
-pub fn pick(b: bool, x: u32, y: u32) -> u32
+pub fn pick(b: bool, x: u64, y: u64) -> u64
     ensures { λ r. ⌜ r ≡ cond b x y ⌝ }
 {
     if b {
@@ -19,7 +19,7 @@ pub fn pick(b: bool, x: u32, y: u32) -> u32
 }
 
 // The numbers twice over, so that each place has all the others behind it.
-fn twice(w: [u32; PLACES]) -> [u32; 2 * PLACES]
+fn twice(w: [u64; PLACES]) -> [u64; 2 * PLACES]
     ensures { λ r. ⌜ Twice w r ⌝ }
 {
     [
@@ -43,7 +43,7 @@ fn twice(w: [u32; PLACES]) -> [u32; 2 * PLACES]
 }
 
 // Whether each of the first eight numbers is another than the one d places on.
-fn differ_on(v: [u32; 2 * PLACES], d: usize) -> bool
+fn differ_on(v: [u64; 2 * PLACES], d: usize) -> bool
     requires { ⌜ d ≤ places ⌝ }
     ensures { λ r. ⌜ r ≡ all places (differsOn v d) ⌝ }
 {
@@ -56,9 +56,9 @@ fn differ_on(v: [u32; 2 * PLACES], d: usize) -> bool
     differ
 }
 
-// True only where no two places hold the same number.
-pub fn all_differ(w: [u32; PLACES]) -> bool
-    ensures { λ r. ⌜ (r ≡ true → AllDiffer w) ⌝ }
+// Whether no two places hold the same number.
+pub fn all_differ(w: [u64; PLACES]) -> bool
+    ensures { λ r. ⌜ r ≡ allDiffer w ⌝ }
 {
     let v = twice(w);
     differ_on(v, 1) & differ_on(v, 2) & differ_on(v, 3) & differ_on(v, 4)

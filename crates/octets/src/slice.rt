@@ -1,11 +1,13 @@
 // Slices of octets: cleared, copied, compared, and a part handed back.
 use crate::number::wide;
+ghost use mathlib.Core.Bool.{true};
 ghost use mathlib.Core.Path.{_≡_};
 ghost use Prim.Native.Nat.{_+_, _-_, _≤_};
-ghost use lib.Dec.{eqb};
 ghost use lib.ListN.{length};
+ghost use Rattle.octets.specs.Digits.{low};
+ghost use Rattle.octets.specs.Laws.{below};
 ghost use Rattle.octets.specs.Part.{octetIs, part, same, zeros, zerosAt, Wrote};
-ghost use Rattle.octets.specs.Search.{least};
+ghost use Rattle.octets.specs.Search.{allOf, least};
 
 // Fills a slice with zeros.
 pub fn zero(s: &mut [u8])
@@ -47,10 +49,10 @@ pub fn same(a: &[u8], b: &[u8]) -> bool
     true
 }
 
-// Eight octets as one number, the first of them lowest: zero exactly where all of them are.
-fn word(s: &[u8], at: usize) -> u64
+// Eight octets as one number, the first of them lowest, and the promise that they are octets; a sum without brackets is compiled to one load.
+pub fn word(s: &[u8], at: usize) -> u64
     requires { ⌜ at + 8 ≤ length (now s) ⌝ }
-    ensures { λ r. ⌜ eqb r 0 ≡ zerosAt (now (s .entry)) at 8 ⌝ }
+    ensures { λ r. ⌜ (r ≡ low (part (now (s .entry)) at 8)) × (allOf (below 256) (part (now (s .entry)) at 8) ≡ true) ⌝ }
 {
     wide(s[at])
         + wide(s[at + 1]) * 256

@@ -40,7 +40,7 @@ ghost use Rattle.record.specs.Sound.{chosenFree, isRecord};
 const BUSY_HOLDS: usize = HOLDS - 1;
 
 // What stands for the key of a chosen address where there is none: the number of its place, as in the other free places.
-const NO_KEY: u32 = BUSY_HOLDS as u32;
+const NO_KEY: u64 = BUSY_HOLDS as u64;
 
 // Whether a line whose phase has a number may have m holds, at most 8, and n children, at most 8.
 fn counts_fit(stage: u64, m: usize, n: usize) -> bool
@@ -64,7 +64,7 @@ fn is_free(phase: Phase, holds: [Hold; HOLDS], n: usize) -> bool
 }
 
 // The key of the chosen address.
-fn chosen_key(b: &[u8]) -> u32
+fn chosen_key(b: &[u8]) -> u64
     requires { ⌜ recordLength ≤ length (now b) ⌝ }
     ensures { λ r. ⌜ (Stage.stageNumber Stage.chosen ≤ field (now (b .entry)) phasePlace 1 → r ≡ keyAt (now (b .entry)) (phasePlace + 1)) ⌝ }
 {

@@ -93,15 +93,18 @@ pub fn is_sound(table: &[u8]) -> bool
     let mut seen = [false; FLAGS];
     let mut i = 0;
     while i < RECORDS {
-        if !is_slot(table, i) {
+        let pair = pair_at(table, i);
+        if PAIRS < pair {
             return false;
         }
-        let pair = pair_at(table, i);
         let place = pair as usize;
         if (pair != FREE_PAIR) & seen[place] {
             return false;
         }
         seen[place] = true;
+        if !is_slot(table, i) {
+            return false;
+        }
         i += 1;
     }
     true

@@ -7,8 +7,8 @@ use native.Mathlib.Omega.{arith}
 use lib.ListN.{getD}
 use borrow.Author.Needs.{needs}
 use borrow.Author.Tests.{ne-eqb}
-use Rattle.octets.specs.Differ.{AllDiffer}
 use Rattle.octets.specs.Digits.{field}
+use Rattle.octets.proofs.Apart.{each-differs, AllDiffer}
 use Rattle.octets.proofs.Rows.{row-distinct}
 use Rattle.children.specs.Children.{childFrom, childIn, childrenFrom, isSpi, sameSpi, spisDiffer}
 use Rattle.children.proofs.differ_at.Statement.{statement}
@@ -40,7 +40,7 @@ all-differ-requires c κs = search needs
 returns-2 : tie.Need-returns-2
 returns-2 c =
     let a = c .before .before .before .before .before in
-    apart _ _ _ (a .pre .1) (c .before .before .spis .result) (c .before .before .spis .ensures) (c .before .all-differ .ensures (c .if2 .taken))
+    apart _ _ _ (a .pre .1) (c .before .before .spis .result) (c .before .before .spis .ensures) (each-differs _ (sym (c .before .all-differ .ensures) ∙ c .if2 .taken))
 
 read-children-requires : tie.Need-read-children-requires
 read-children-requires c κs = search needs

@@ -46,12 +46,6 @@ add-get c = search needs
 get-requires : tie.Need-get-requires Inv-loop μ-loop
 get-requires c κs = search needs
 
-cast-pick : tie.Need-cast-pick Inv-loop μ-loop
-cast-pick c = search needs
-
-cast-pick-2 : tie.Need-cast-pick-2 Inv-loop μ-loop
-cast-pick-2 c = search needs
-
 pick-requires : tie.Need-pick-requires Inv-loop μ-loop
 pick-requires c κs = search needs
 
@@ -87,8 +81,6 @@ spis-spec =
     mul-get
     add-get
     get-requires
-    cast-pick
-    cast-pick-2
     pick-requires
     mul-w
     array-write-w

@@ -56,9 +56,6 @@ key-at-requires c κs = search needs
 sub-pick : tie.Need-sub-pick Inv-loop μ-loop
 sub-pick c = search needs
 
-cast-pick : tie.Need-cast-pick Inv-loop μ-loop
-cast-pick c = search needs
-
 pick-requires : tie.Need-pick-requires Inv-loop μ-loop
 pick-requires c κs = search needs
 
@@ -106,7 +103,6 @@ keys-spec =
     add-key-at
     key-at-requires
     sub-pick
-    cast-pick
     pick-requires
     pick-requires-2
     mul-list

@@ -1,6 +1,6 @@
 -- `octets::differ::all_differ` meets its contract.
 use borrow.Author.Needs.{needs}
-use Rattle.octets.proofs.Apart.{near-apart}
+use Rattle.octets.proofs.Apart.{four-tests}
 use Rattle.octets.proofs.differ.all_differ.Statement.{statement}
 use Rattle.octets.proofs.differ.all_differ.Tie as tie
 
@@ -20,7 +20,7 @@ differ-on-requires-4 : tie.Need-differ-on-requires-4
 differ-on-requires-4 c κs = search needs
 
 returns : tie.Need-returns
-returns c = search near-apart
+returns c = search four-tests
 
 pub all-differ-spec : {M : Type 1} → statement M
 all-differ-spec =

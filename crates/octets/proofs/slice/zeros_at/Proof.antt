@@ -10,8 +10,10 @@ use lib.Dec.{eqb}
 use lib.ListN.{length}
 use denote.Ref.{now}
 use borrow.Author.Needs.{needs}
-use Rattle.octets.specs.Part.{zerosAt}
+use Rattle.octets.specs.Digits.{low}
+use Rattle.octets.specs.Part.{part, zerosAt}
 use Rattle.octets.proofs.Ors.{or-none}
+use Rattle.octets.proofs.Words.{word-none}
 use Rattle.octets.proofs.Zeros.{zeros-done, zeros-between, zeros-overlap}
 use Rattle.octets.proofs.slice.zeros_at.Statement.{statement}
 use Rattle.octets.proofs.slice.zeros_at.Tie as tie
@@ -21,6 +23,10 @@ Inv-loop s at n last bits₀ i₀ bits i = (at ≤ i) × (i ≤ at + n) × (eqb 
 
 abbrev μ-loop : tie.MeasureT-loop
 μ-loop s at n last bits₀ i₀ bits i = at + n - i
+
+-- a word is zero exactly where its octets are
+none : (l : List ℕ) (at : ℕ) → at + 8 ≤ length l → {w : ℕ} → w ≡ low (part l at 8) → eqb w 0 ≡ zerosAt l at 8
+none l at h e = ap (λ (x : ℕ). eqb x 0) e ∙ word-none l at h
 
 -- the bits of the octets from a place to i and of the last word
 module _ (l : List ℕ) (at last i : ℕ) where
@@ -64,7 +70,7 @@ word-requires c κs = search needs
 loop-holds : tie.Need-loop-holds Inv-loop μ-loop
 loop-holds c =
     let a = c .before .before .before .args in
-    (search needs, search needs, begun (now (a .s)) (a .at) (a .at + a .n - 8) (a .at) (eqb (c .word .result) 0) (omega arith) (c .word .ensures))
+    (search needs, search needs, begun (now (a .s)) (a .at) (a .at + a .n - 8) (a .at) (eqb (c .word .result) 0) (omega arith) (none (now (a .s)) _ (omega arith) (c .word .ensures .0)))
 
 word-requires-2 : tie.Need-word-requires-2 Inv-loop μ-loop
 word-requires-2 c κs = search needs
@@ -79,7 +85,7 @@ loop-again : tie.Need-loop-again Inv-loop μ-loop
 loop-again c =
     let a = c .before .before .before .before .before .before .args in
     let at-loop = c .before .before .loop in
-    (search needs, search needs, turn (now (a .s)) (a .at) (a .at + a .n - 8) (at-loop .i) (at-loop .bits) (c .word2 .result) (at-loop .inv .0) (omega arith) (at-loop .inv .2) (c .word2 .ensures))
+    (search needs, search needs, turn (now (a .s)) (a .at) (a .at + a .n - 8) (at-loop .i) (at-loop .bits) (c .word2 .result) (at-loop .inv .0) (omega arith) (at-loop .inv .2) (none (now (a .s)) _ (omega arith) (c .word2 .ensures .0)))
 
 returns-2 : tie.Need-returns-2 Inv-loop μ-loop
 returns-2 c =

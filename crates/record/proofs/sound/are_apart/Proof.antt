@@ -2,6 +2,7 @@
 use mathlib.Core.Path.{sym, ap, ap₂, _∙_}
 use borrow.Author.Needs.{needs}
 use borrow.Author.Tests.{not-false, not-true}
+use Rattle.octets.proofs.Apart.{each-differs}
 use Rattle.address.specs.Address.{heldAddresses}
 use Rattle.holds.specs.Holds.{different}
 use Rattle.phase.specs.Chosen.{chosen}
@@ -28,7 +29,7 @@ returns-2 : tie.Need-returns-2
 returns-2 c =
     let a = c .before .before .before .before .before .before in
     let keys = c .before .before .keys in
-    told-apart _ _ (a .pre .0) (a .pre .1) _ (keys .result) (keys .ensures) (c .before .all-differ .ensures (c .if2 .taken)) (c .before .before .before .chosen-key .ensures)
+    told-apart _ _ (a .pre .0) (a .pre .1) _ (keys .result) (keys .ensures) (each-differs _ (sym (c .before .all-differ .ensures) ∙ c .if2 .taken)) (c .before .before .before .chosen-key .ensures)
 
 read-holds-requires : tie.Need-read-holds-requires
 read-holds-requires c κs =
