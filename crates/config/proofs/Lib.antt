@@ -2,4 +2,5 @@
 pub mod Collects
 pub mod Runs
 pub mod Texts
+pub mod Packed
 pub mod Wholes

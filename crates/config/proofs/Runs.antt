@@ -27,8 +27,8 @@ module _ (kind : Kind) (l : List ℕ) (at : ℕ) where
       → (r : Listed) → listedOf r ≡ asListed kind e → nextOf r next → ListedIs kind l at r
   unfolding section rest taken left listedOf
   line-listed e next h below within Not k to = nothing-listed e (entriesFrom l next) h (sym k)
-  line-listed e next h below within (Is p n) k to =
-      subst (λ (m : ℕ). ListedIs kind l at (Is p m)) (sym to) (
+  line-listed e next h below within (Is x n) k to =
+      subst (λ (m : ℕ). ListedIs kind l at (Is x m)) (sym to) (
         ap (section f) h ∙ ap (λ (o : Option Preferred). taken o (section f (entriesFrom l next))) (sym k),
         ap (rest f) h ∙ ap (λ (o : Option Preferred). left o (e ∷ entriesFrom l next) (rest f (entriesFrom l next))) (sym k),
         below,

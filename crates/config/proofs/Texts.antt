@@ -11,10 +11,11 @@ use Rattle.octets.specs.Part.{part, octetIs}
 use Rattle.octets.specs.Search.{least}
 use Rattle.octets.proofs.Parts.{length-part}
 use Rattle.octets.proofs.Search.{least-bound}
-use Rattle.entry.specs.Entry.{lineEntry}
+use Rattle.entry.specs.Entry.{lineEntry, Bounded}
 use Rattle.entry.specs.Pieces.{pieces}
 use Rattle.entry.specs.declared.Entry.{Entry}
 use Rattle.entry.specs.declared.Entry.the-variants.{Home, Name, Node, Preference, Bar, Bad}
+use Rattle.entry.proofs.Bounds.{line-bounded}
 use Rattle.entry.proofs.Entries.{some-piece}
 use Rattle.entry.proofs.Names.{NameLine, name-line-size}
 use Rattle.entry.proofs.Splits.{split, whole}
@@ -51,12 +52,12 @@ module _ (l : List ℕ) (at : ℕ) where
 
     -- a line ended by a newline is an entry, and the next line begins behind it
     pub ended : (r : ℕ) → at ≤ r → r ≤ length l → r ≡ at + least (length l - at) (octetIs l at 10) → (r ≡ length l → ⊥) → (e : Entry) → e ≡ lineEntry (part l at (r - at))
-        → (entriesFrom l at ≡ e ∷ entriesFrom l (r + 1)) × (at < r + 1) × (r + 1 ≤ length l) × (r + 1 ≡ lineEnd l at + 1) × NameEnds at e (r + 1)
+        → (entriesFrom l at ≡ e ∷ entriesFrom l (r + 1)) × (at < r + 1) × (r + 1 ≤ length l) × (r + 1 ≡ lineEnd l at + 1) × NameEnds at e (r + 1) × Bounded e
     unfolding entriesFrom entries lineEnd
     ended r low high first h e q =
         let s = some-piece 10 (drop (r + 1) l) in
         let name = name-ends r (r - at) (omega arith) (lineEntry (part l at (r - at))) (subst (λ (m : ℕ). NameLine (lineEntry (part l at (r - at))) m) (length-part l at (r - at) (omega arith)) (name-line-size (part l at (r - at)))) in
-        (rw (split l 10 at r inside first h, s .2, q), omega arith, omega arith, ap (λ (k : ℕ). k + 1) first, subst (λ (x : Entry). NameEnds at x (r + 1)) (sym q) name)
+        (rw (split l 10 at r inside first h, s .2, q), omega arith, omega arith, ap (λ (k : ℕ). k + 1) first, subst (λ (x : Entry). NameEnds at x (r + 1)) (sym q) name, subst Bounded (sym q) (line-bounded (part l at (r - at))))
 
 -- before the end of a text its end is not reached
 pub not-end : (l : List ℕ) (at : ℕ) → at ≤ length l → (at ≡ length l → ⊥) → isEnd (entriesFrom l at) ≡ false

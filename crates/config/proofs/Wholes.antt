@@ -13,7 +13,7 @@ use Rattle.entry.specs.declared.Entry.the-variants.{Home, Name, Preference, Bar
 use Rattle.entry.specs.declared.Entry.the-variants as Entry
 use Rattle.config.specs.Lines.{entriesFrom, lineEnd}
 use Rattle.config.specs.Branch.{NameEnds, skip, SectionIs}
-use Rattle.config.specs.Settings.{plmnIn, accepted, asHome, asListed, asNode, section, rest, left, isEnd, nodeOr, firstNode, afterNode, settle, withHome, fromHome, namePlace, configOf, NodeWithin}
+use Rattle.config.specs.Settings.{listedIn, plmnIn, accepted, asHome, asListed, asNode, section, rest, left, isEnd, nodeOr, firstNode, afterNode, settle, withHome, fromHome, namePlace, configOf, NodeWithin}
 use Rattle.config.specs.declared.Node.{Node}
 use Rattle.config.specs.declared.Node.the-variants as Node
 use Rattle.config.specs.declared.list.Kind.the-variants as Kind
@@ -89,12 +89,12 @@ module _ (l : List ℕ) (h : Plmn) (n : Node) (es : List Entry) (s : ℕ) (from 
       unfinished e = sym (rw (bad-plmns′ ∙ ok, bars-are ∙ ok₂, ap isEnd last ∙ not-end l (Q .next) (q .next-within) e))
 
       pub finished : Q .next ≡ length l
-          → some (record { home = h; node = n; plmns = take (P .count) (P .list); bars = map plmnIn (take (Q .count) (Q .list)) }) ≡ settle h n es
+          → some (record { home = h; node = n; plmns = map listedIn (take (P .count) (P .list)); bars = map plmnIn (map listedIn (take (Q .count) (Q .list))) }) ≡ settle h n es
       unfolding settle isEnd
       finished e =
           let done : isEnd (rest (asListed Kind.Bar) (rest (asListed Kind.Plmn) es)) ≡ true = ap isEnd (last ∙ at-end l (Q .next) e .0) in
-          let plmns-are : section (asListed Kind.Plmn) es ≡ take (P .count) (P .list) = ap (section (asListed Kind.Plmn)) from ∙ p .list-is ok in
-          let bars-listed : section (asListed Kind.Bar) (rest (asListed Kind.Plmn) es) ≡ take (Q .count) (Q .list) = ap (section (asListed Kind.Bar)) behind ∙ q .list-is ok₂ in
+          let plmns-are : section (asListed Kind.Plmn) es ≡ map listedIn (take (P .count) (P .list)) = ap (section (asListed Kind.Plmn)) from ∙ p .list-is ok in
+          let bars-listed : section (asListed Kind.Bar) (rest (asListed Kind.Plmn) es) ≡ map listedIn (take (Q .count) (Q .list)) = ap (section (asListed Kind.Bar)) behind ∙ q .list-is ok₂ in
           sym (rw (bad-plmns′ ∙ ok, bars-are ∙ ok₂, done, plmns-are, bars-listed))
 
 -- the whole text

@@ -5,13 +5,13 @@ use mathlib.Core.List.{List, [], _∷_, map}
 use mathlib.Core.Option.{Option, none, some}
 use mathlib.Core.Path.{_≡_}
 use lib.ListN.{length, take}
-use Rattle.entry.specs.Entry.{beforeName}
+use Rattle.entry.specs.Entry.{beforeName, Bounded}
 use Rattle.entry.specs.declared.Entry.{Entry}
 use Rattle.entry.specs.declared.Entry.the-variants.{Home, Name, Preference, Bar, Bad}
 use Rattle.entry.specs.declared.Entry.the-variants as Entry
 use Rattle.entry.specs.declared.field.Preferred.{Preferred}
 use Rattle.config.specs.Lines.{entriesFrom, lineEnd}
-use Rattle.config.specs.Settings.{accepted, afterNode, asListed, firstNode, mostListed, plmnIn, rest, section, NodeWithin, Within}
+use Rattle.config.specs.Settings.{accepted, afterNode, asListed, firstNode, listedIn, mostListed, plmnIn, rest, section, NodeWithin, Within}
 use Rattle.config.specs.declared.Config.{Config}
 use Rattle.config.specs.declared.Node.{Node}
 use Rattle.config.specs.declared.line.TextLine.{TextLine}
@@ -34,30 +34,30 @@ NameEnds at Bad next = Unit {0}
 -- what the code's answer says of the line at a place
 abbrev pub LineIs : List ℕ → ℕ → TextLine → Type 0
 LineIs text at (Whole e next) =
-    (entriesFrom text at ≡ e ∷ entriesFrom text next) × (at < next) × (next ≤ length text) × (next ≡ lineEnd text at + 1) × NameEnds at e next
+    (entriesFrom text at ≡ e ∷ entriesFrom text next) × (at < next) × (next ≤ length text) × (next ≡ lineEnd text at + 1) × NameEnds at e next × Bounded e
 LineIs text at Last = (entriesFrom text at ≡ []) × (at ≡ length text)
 LineIs text at Broken = entriesFrom text at ≡ Bad ∷ []
 
 -- what the code's answer says of the listed entries from a place on
 abbrev pub ListedIs : Kind → List ℕ → ℕ → Listed → Type 0
-ListedIs kind text at (Is p next) =
-    (section (asListed kind) (entriesFrom text at) ≡ p ∷ section (asListed kind) (entriesFrom text next))
+ListedIs kind text at (Is x next) =
+    (section (asListed kind) (entriesFrom text at) ≡ listedIn x ∷ section (asListed kind) (entriesFrom text next))
     × (rest (asListed kind) (entriesFrom text at) ≡ rest (asListed kind) (entriesFrom text next)) × (at < next) × (next ≤ length text)
 ListedIs kind text at Not = (section (asListed kind) (entriesFrom text at) ≡ []) × (rest (asListed kind) (entriesFrom text at) ≡ entriesFrom text at)
 
 -- the entry that an answer holds, and that its next place is the one handed in
 unfoldable pub listedOf : Listed → Option Preferred
-listedOf (Is p next) = some p
+listedOf (Is x next) = some (listedIn x)
 listedOf Not = none
 
 abbrev pub nextOf : Listed → ℕ → Type 0
-nextOf (Is p to) next = to ≡ next
+nextOf (Is x to) next = to ≡ next
 nextOf Not next = Unit {0}
 
 -- what the code's answer says of the entries of one kind from a place on
 pub record SectionIs (kind : Kind) (text : List ℕ) (at : ℕ) (r : Section) : Type 0 where
   pub ok-is : r .ok ≡ accepted (map plmnIn (section (asListed kind) (entriesFrom text at)))
-  pub list-is : r .ok ≡ true → section (asListed kind) (entriesFrom text at) ≡ take (r .count) (r .list)
+  pub list-is : r .ok ≡ true → section (asListed kind) (entriesFrom text at) ≡ map listedIn (take (r .count) (r .list))
   pub rest-is : r .ok ≡ true → rest (asListed kind) (entriesFrom text at) ≡ entriesFrom text (r .next)
   pub count-within : r .count ≤ mostListed
   pub next-within : r .next ≤ length text

@@ -1,5 +1,5 @@
 -- The configuration text as a whole: `home` once, `node` at most once, then `plmn` and then `bar` entries.
-use Prim.Native.Nat.{ℕ, _+_, _≤_}
+use Prim.Native.Nat.{ℕ, _+_, _/_, _%_, _≤_}
 use mathlib.Core.Bool.{Bool, true, false, cond, _&&_}
 use mathlib.Core.List.{List, [], _∷_, map}
 use mathlib.Core.Option.{Option, none, some}
@@ -25,6 +25,10 @@ use Rattle.config.specs.declared.list.Kind.the-variants as Kind
 unfoldable pub plmnIn : Preferred → Plmn
 plmnIn x = x .plmn
 
+-- the listed entry that a number keeps: its MCC, then ten bits of its MNC, then eight of its priority
+unfoldable pub listedIn : ℕ → Preferred
+listedIn x = record { plmn = record { mcc = x / 256 / 1024; mnc = x / 256 % 1024 }; priority = x % 256 }
+
 -- a configuration with its entries as lists
 pub record Settings : Type 0 where
   pub home : Plmn
@@ -37,8 +41,8 @@ unfoldable pub settingsIn : Config → Settings
 settingsIn c = record {
   home = c .home;
   node = c .node;
-  plmns = take (c .«plmn_count») (c .plmns);
-  bars = map plmnIn (take (c .«bar_count») (c .bars));
+  plmns = map listedIn (take (c .«plmn_count») (c .plmns));
+  bars = map plmnIn (map listedIn (take (c .«bar_count») (c .bars)));
 }
 
 -- the most entries of one kind, `plmn` or `bar`, that a text has

@@ -4,7 +4,6 @@ pub mod list;
 pub mod parse;
 
 use address::Address;
-use entry::field::Preferred;
 use network::Plmn;
 
 // A configuration text has at most so many octets.
@@ -20,13 +19,13 @@ pub enum Node {
     Address(Address),
 }
 
-// A configuration: `plmn` entries and barred PLMNs are those below their counts.
+// A configuration: `plmn` entries and barred PLMNs are those below their counts, each kept as one number.
 pub struct Config {
     pub home: Plmn,
     pub node: Node,
-    pub plmns: [Preferred; MOST_LISTED],
+    pub plmns: [u64; MOST_LISTED],
     pub plmn_count: usize,
-    pub bars: [Preferred; MOST_LISTED],
+    pub bars: [u64; MOST_LISTED],
     pub bar_count: usize,
 }
 

@@ -12,8 +12,10 @@ ghost use mathlib.Core.List.{map};
 ghost use Prim.Native.Nat.{_≤_};
 ghost use lib.ListN.{length, take};
 ghost use Rattle.network.specs.Plmn.{among};
-ghost use Rattle.config.specs.Branch.{listedOf, ListedIs, SectionIs, nextOf};
-ghost use Rattle.config.specs.Settings.{asListed, mostListed, plmnIn};
+ghost use Rattle.entry.specs.Entry.{Bounded};
+ghost use Rattle.entry.specs.declared.Entry.the-variants.{Preference};
+ghost use Rattle.config.specs.Branch.{listedOf, nextOf, ListedIs, SectionIs};
+ghost use Rattle.config.specs.Settings.{asListed, listedIn, mostListed, plmnIn};
 
 // The kinds of entry that are listed.
 pub enum Kind {
@@ -21,31 +23,59 @@ pub enum Kind {
     Bar,
 }
 
+// One more than the greatest number that an MNC takes in the number of a listed entry.
+const MNC_ROOM: u64 = 1024;
+
+// One more than the greatest number that a priority takes in it.
+const PRIORITY_ROOM: u64 = 256;
+
+// The number that a listed entry is kept as: its MCC, then its MNC, then its priority.
+fn number_of(p: Preferred) -> u64
+    requires { ⌜ Bounded (Preference p) ⌝ }
+    ensures { λ r. ⌜ listedIn r ≡ p ⌝ }
+{
+    (p.plmn.mcc * MNC_ROOM + p.plmn.mnc) * PRIORITY_ROOM + p.priority
+}
+
+// The listed entry that a number keeps.
+pub fn listed_in(x: u64) -> Preferred
+    ensures { λ r. ⌜ r ≡ listedIn x ⌝ }
+{
+    Preferred {
+        plmn: Plmn {
+            mcc: x / PRIORITY_ROOM / MNC_ROOM,
+            mnc: x / PRIORITY_ROOM % MNC_ROOM,
+        },
+        priority: x % PRIORITY_ROOM,
+    }
+}
+
 // What stands at a place where a listed entry may begin.
 pub(crate) enum Listed {
-    // An entry, and where the next line begins.
-    Is(Preferred, usize),
+    // The number that keeps it, and the place behind it.
+    Is(u64, usize),
     // Something else.
     Not,
 }
 
 // The entry, where it is of the kind; a barred PLMN is kept with priority 0.
 fn of_kind(e: Entry, kind: Kind, next: usize) -> Listed
+    requires { ⌜ Bounded e ⌝ }
     ensures { λ r. ⌜ listedOf r ≡ asListed kind e ⌝ }
     ensures { λ r. ⌜ nextOf r next ⌝ }
 {
     match e {
         Entry::Preference(p) => match kind {
-            Kind::Plmn => Listed::Is(p, next),
+            Kind::Plmn => Listed::Is(number_of(p), next),
             Kind::Bar => Listed::Not,
         },
         Entry::Bar(p) => match kind {
             Kind::Plmn => Listed::Not,
             Kind::Bar => Listed::Is(
-                Preferred {
+                number_of(Preferred {
                     plmn: p,
                     priority: 0,
-                },
+                }),
                 next,
             ),
         },
@@ -56,14 +86,14 @@ fn of_kind(e: Entry, kind: Kind, next: usize) -> Listed
     }
 }
 
-// Whether a PLMN stands among the first n preferred ones.
-pub fn has_preferred(list: [Preferred; MOST_LISTED], n: usize, p: Plmn) -> bool
+// Whether a PLMN stands among the first n listed ones.
+pub fn has_preferred(list: [u64; MOST_LISTED], n: usize, p: Plmn) -> bool
     requires { ⌜ n ≤ mostListed ⌝ }
-    ensures { λ r. ⌜ r ≡ among p (map plmnIn (take n list)) ⌝ }
+    ensures { λ r. ⌜ r ≡ among p (map plmnIn (map listedIn (take n list))) ⌝ }
 {
     let mut i = 0;
     while i < n {
-        let q = list[i];
+        let q = listed_in(list[i]);
         if same_plmn(p, q.plmn) {
             return true;
         }
@@ -87,7 +117,7 @@ fn listed_at(text: &[u8], at: usize, kind: Kind) -> Listed
 // The entries of one kind from a place on: those below the count, and where the next line begins.
 pub(crate) struct Section {
     pub ok: bool,
-    pub list: [Preferred; MOST_LISTED],
+    pub list: [u64; MOST_LISTED],
     pub count: usize,
     pub next: usize,
 }
@@ -98,10 +128,7 @@ fn refused() -> Section
 {
     Section {
         ok: false,
-        list: [Preferred {
-            plmn: Plmn { mcc: 0, mnc: 0 },
-            priority: 0,
-        }; MOST_LISTED],
+        list: [0; MOST_LISTED],
         count: 0,
         next: 0,
     }
@@ -112,15 +139,11 @@ pub(crate) fn collect(text: &[u8], start: usize, kind: Kind) -> Section
     requires { ⌜ start ≤ length (now text) ⌝ }
     ensures { λ r. ⌜ SectionIs kind (now (text .entry)) start r ⌝ }
 {
-    let none = Preferred {
-        plmn: Plmn { mcc: 0, mnc: 0 },
-        priority: 0,
-    };
-    let mut list = [none; MOST_LISTED];
+    let mut list = [0; MOST_LISTED];
     let mut count = 0;
     let mut at = start;
     loop {
-        let Listed::Is(p, next) = listed_at(text, at, kind) else {
+        let Listed::Is(x, next) = listed_at(text, at, kind) else {
             return Section {
                 ok: true,
                 list,
@@ -131,10 +154,11 @@ pub(crate) fn collect(text: &[u8], start: usize, kind: Kind) -> Section
         if count == MOST_LISTED {
             return refused();
         }
+        let p = listed_in(x);
         if has_preferred(list, count, p.plmn) {
             return refused();
         }
-        list[count] = p;
+        list[count] = x;
         count += 1;
         at = next;
     }

@@ -9,7 +9,6 @@ use crate::list::Kind;
 use crate::list::collect;
 use entry::BEFORE_NAME;
 use entry::Entry;
-use entry::field::Preferred;
 use network::MaybePlmn;
 use network::Plmn;
 ghost use mathlib.Core.Option.{none};
@@ -102,10 +101,7 @@ pub fn ill_formed() -> Parsed
     ensures { λ r. ⌜ Anywhere (r .config) ⌝ }
 {
     let home = Plmn { mcc: 0, mnc: 0 };
-    let list = [Preferred {
-        plmn: home,
-        priority: 0,
-    }; MOST_LISTED];
+    let list = [0; MOST_LISTED];
     Parsed {
         ok: false,
         config: Config {

@@ -1,5 +1,5 @@
 -- One line of the configuration text, by its fields.
-use Prim.Native.Nat.{ℕ, _+_, _*_}
+use Prim.Native.Nat.{ℕ, _+_, _*_, _<_}
 use mathlib.Core.Bool.{cond}
 use mathlib.Core.List.{List, [], _∷_}
 use mathlib.Core.Option.{Option, none, some}
@@ -74,3 +74,16 @@ entryOf (a ∷ b ∷ c ∷ d ∷ e ∷ fs) = Bad
 -- the fields of a line are parted by one tab
 unfoldable pub lineEntry : List ℕ → Entry
 lineEntry l = entryOf (pieces tabCode l)
+
+-- the numbers of a PLMN have three digits at most
+abbrev pub Small : Plmn → Type 0
+Small p = (p .mcc < 1000) × (p .mnc < 1000)
+
+-- the numbers of what an entry lists
+abbrev pub Bounded : Entry → Type 0
+Bounded (Home p) = Unit {0}
+Bounded (Name n) = Unit {0}
+Bounded (Node a) = Unit {0}
+Bounded (Preference p) = Small (p .plmn) × (p .priority < 256)
+Bounded (Bar p) = Small p
+Bounded Bad = Unit {0}

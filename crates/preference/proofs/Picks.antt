@@ -1,7 +1,7 @@
 -- The laws of networks in a list, and of the best record.
 use Prim.Native.Nat.{ℕ, zero, suc, _+_, _-_, _/_, _≤_, _<_}
 use mathlib.Core.Bool.{Bool, true, false, _||_}
-use mathlib.Core.List.{List, [], _∷_}
+use mathlib.Core.List.{List, [], _∷_, map}
 use mathlib.Core.Option.{Option, none, some}
 use mathlib.Core.Path.{_≡_, refl, sym, ap, _∙_, subst}
 use native.Mathlib.Nat.{suc-ne-zero}
@@ -15,7 +15,7 @@ use Rattle.octets.proofs.Rows.{row-more, row-done, left-more, left-none}
 use Rattle.network.specs.Plmn.{samePlmn, among}
 use Rattle.network.specs.declared.Plmn.{Plmn}
 use Rattle.entry.specs.declared.field.Preferred.{Preferred}
-use Rattle.config.specs.Settings.{mostListed, plmnIn}
+use Rattle.config.specs.Settings.{listedIn, mostListed, plmnIn}
 use Rattle.lists.specs.Lists.{networkAt, networksIn}
 use Rattle.preference.specs.Branch.{whereFound}
 use Rattle.preference.specs.Preference.{better, best, hasPlmns, networkOf, visited, offered}
@@ -66,51 +66,47 @@ module _ (x y : Preferred) where
   unfolding better
   better-earlier h = sym (rw (le-leb (x .priority) (y .priority) h))
 
--- what stands past the end of a list
-abbrev pub nothing : Preferred
-nothing = record { plmn = record { mcc = 0; mnc = 0 }; priority = 0 }
-
 -- the best of the records from i on, of those that pass
-module _ (p : Preferred → Bool) (l : List Preferred) (n i : ℕ) (long : n ≤ length l) where
-  pub none-behind : n ≤ i → none ≡ best (only p (drop i (take n l)))
+module _ (p : Preferred → Bool) (l : List ℕ) (n i : ℕ) (long : n ≤ length l) where
+  pub none-behind : n ≤ i → none ≡ best (only p (map listedIn (drop i (take n l))))
   unfolding best only
   none-behind h = sym (rw (left-none l n i long h))
 
   -- one record more
-  split : (t : Bool) → i < n → p (getD l i nothing) ≡ t → only p (drop i (take n l)) ≡ keep t (getD l i nothing) (only p (drop (i + 1) (take n l)))
+  split : (x : Preferred) → x ≡ listedIn (getD l i 0) → (t : Bool) → i < n → p x ≡ t → only p (map listedIn (drop i (take n l))) ≡ keep t x (only p (map listedIn (drop (i + 1) (take n l))))
   unfolding only
-  split t h e = rw (left-more l n i long nothing h, e)
+  split x is t h e = rw (left-more l n i long 0 h, sym is, e)
 
-  module _ (k : ℕ) (next : k ≡ i + 1) (inside : i < n) (o : Option Preferred) (behind : o ≡ best (only p (drop k (take n l)))) where
-    from-next : o ≡ best (only p (drop (i + 1) (take n l)))
-    from-next = subst (λ (m : ℕ). o ≡ best (only p (drop m (take n l)))) next behind
+  module _ (k : ℕ) (next : k ≡ i + 1) (inside : i < n) (x : Preferred) (is : x ≡ listedIn (getD l i 0)) (o : Option Preferred) (behind : o ≡ best (only p (map listedIn (drop k (take n l))))) where
+    from-next : o ≡ best (only p (map listedIn (drop (i + 1) (take n l))))
+    from-next = subst (λ (m : ℕ). o ≡ best (only p (map listedIn (drop m (take n l))))) next behind
 
     -- which passes
-    pub best-more : p (getD l i nothing) ≡ true → some (better (getD l i nothing) o) ≡ best (only p (drop i (take n l)))
+    pub best-more : p x ≡ true → some (better x o) ≡ best (only p (map listedIn (drop i (take n l))))
     unfolding best keep
-    best-more e = sym (rw (split true inside e, from-next))
+    best-more e = sym (rw (split x is true inside e, from-next))
 
     -- which does not
-    pub best-same : p (getD l i nothing) ≡ false → o ≡ best (only p (drop i (take n l)))
+    pub best-same : p x ≡ false → o ≡ best (only p (map listedIn (drop i (take n l))))
     unfolding keep
-    best-same e = from-next ∙ sym (ap best (split false inside e))
+    best-same e = from-next ∙ sym (ap best (split x is false inside e))
 
 -- there are records where their count is not 0
-pub some-plmns : (n : ℕ) (l : List Preferred) → length l ≡ mostListed → ltb 0 n ≡ hasPlmns (take n l)
+pub some-plmns : (n : ℕ) (l : List ℕ) → length l ≡ mostListed → ltb 0 n ≡ hasPlmns (map listedIn (take n l))
 unfolding hasPlmns
 some-plmns zero l h = refl
 some-plmns (suc n) [] h = absurd (suc-ne-zero _ (sym h))
 some-plmns (suc n) (x ∷ l) h = lt-ltb 0 (suc n) (omega arith)
 
 -- at the first record the whole list is behind
-module _ (p : Preferred → Bool) (l : List Preferred) (i : ℕ) (found : Bool) (top : Preferred) (behind : whereFound found top ≡ best (only p (drop i l))) (done : i ≡ 0) where
-  at-first : whereFound found top ≡ best (only p l)
-  at-first = subst (λ (k : ℕ). whereFound found top ≡ best (only p (drop k l))) done behind
+module _ (p : Preferred → Bool) (l : List ℕ) (i : ℕ) (found : Bool) (top : Preferred) (behind : whereFound found top ≡ best (only p (map listedIn (drop i l)))) (done : i ≡ 0) where
+  at-first : whereFound found top ≡ best (only p (map listedIn l))
+  at-first = subst (λ (k : ℕ). whereFound found top ≡ best (only p (map listedIn (drop k l)))) done behind
 
-  pub found-best : found ≡ true → some (plmnIn top) ≡ networkOf (best (only p l))
+  pub found-best : found ≡ true → some (plmnIn top) ≡ networkOf (best (only p (map listedIn l)))
   unfolding networkOf whereFound
   found-best e = ap networkOf (sym (ap (λ (t : Bool). whereFound t top) e) ∙ at-first)
 
-  pub found-none : found ≡ false → none ≡ networkOf (best (only p l))
+  pub found-none : found ≡ false → none ≡ networkOf (best (only p (map listedIn l)))
   unfolding networkOf whereFound
   found-none e = ap networkOf (sym (ap (λ (t : Bool). whereFound t top) e) ∙ at-first)

@@ -3,26 +3,28 @@ use config::Config;
 use config::MOST_LISTED;
 use config::Node;
 use config::list::has_preferred;
+use config::list::listed_in;
 use entry::field::Preferred;
 use lists::network_at;
 use network::MaybePlmn;
 use network::Plmn;
 use network::same_plmn;
 use place::Place;
+ghost use mathlib.Core.List.{map};
 ghost use mathlib.Core.Path.{_≡_};
 ghost use Prim.Native.Nat.{_≤_};
 ghost use lib.ListN.{take};
 ghost use Rattle.octets.specs.Row.{only};
 ghost use Rattle.network.specs.Plmn.{among, plmnOption};
-ghost use Rattle.config.specs.Settings.{mostListed, Counted, settingsIn};
+ghost use Rattle.config.specs.Settings.{listedIn, mostListed, Counted, settingsIn};
 ghost use Rattle.lists.specs.Lists.{networksIn};
 ghost use Rattle.preference.specs.Branch.{whereFound};
 ghost use Rattle.preference.specs.Laws.{Laws};
 ghost use Rattle.preference.specs.Preference.{barred, best, better, eligible, hasPlmns, networkOf, offered, preferred, provisioned, ranked, unranked, visited};
 
 // Whether there is a record among the first n.
-fn has_plmns(list: [Preferred; MOST_LISTED], n: usize) -> bool
-    ensures { λ r. ⌜ r ≡ hasPlmns (take n list) ⌝ }
+fn has_plmns(list: [u64; MOST_LISTED], n: usize) -> bool
+    ensures { λ r. ⌜ r ≡ hasPlmns (map listedIn (take n list)) ⌝ }
 {
     0 < n
 }
@@ -120,21 +122,21 @@ fn better_of(x: Preferred, found: bool, top: Preferred) -> Preferred
 
 // The network of best priority among the first n records that are eligible.
 fn best_of(
-    list: [Preferred; MOST_LISTED],
+    list: [u64; MOST_LISTED],
     n: usize,
     config: Config,
     networks: &[u8],
     place: Place,
 ) -> MaybePlmn
     requires { ⌜ (n ≤ mostListed) × Counted config ⌝ }
-    ensures { λ r. ⌜ plmnOption r ≡ networkOf (best (only (eligible (settingsIn config) (networksIn (now (networks .entry))) place) (take n list))) ⌝ }
+    ensures { λ r. ⌜ plmnOption r ≡ networkOf (best (only (eligible (settingsIn config) (networksIn (now (networks .entry))) place) (map listedIn (take n list)))) ⌝ }
 {
-    let mut top = list[0];
+    let mut top = listed_in(list[0]);
     let mut found = false;
     let mut i = n;
     while 0 < i {
         i -= 1;
-        let x = list[i];
+        let x = listed_in(list[i]);
         if is_eligible(config, networks, place, x) {
             top = better_of(x, found, top);
             found = true;

@@ -9,7 +9,7 @@ use parameters::well_formed;
 ghost use mathlib.Core.Path.{_≡_};
 ghost use Prim.Native.Nat.{_+_, _≤_};
 ghost use lib.ListN.{length};
-ghost use Rattle.octets.specs.Part.{Wrote, padded};
+ghost use Rattle.octets.specs.Part.{Wrote, padded, zeros};
 ghost use Rattle.response.specs.Laws.{Laws};
 ghost use Rattle.response.specs.Response.{block, header, lentOutOfRange, response, writeRefusal, written};
 
@@ -66,19 +66,28 @@ fn put_block(packet: &mut [u8], at: usize, octets: &[u8])
     copy(octets, packet, at + 2);
 }
 
-// Writes a NAS response and zeros after it; of an identifier its lowest octet.
-pub fn put_response(identifier: u64, parameters: &[u8], nas: &[u8], packet: &mut [u8]) -> usize
-    requires { ⌜ 18 + length (now parameters) + length (now nas) ≤ length (now packet) ⌝ }
+// Writes a NAS response to a buffer of zeros; of an identifier its lowest octet.
+pub fn fill_response(identifier: u64, parameters: &[u8], nas: &[u8], packet: &mut [u8]) -> usize
+    requires { ⌜ (18 + length (now parameters) + length (now nas) ≤ length (now packet)) × (now packet ≡ zeros (length (now packet))) ⌝ }
     ensures buffer { λ _. ⌜ now (packet .exit) ≡ padded (length (now (packet .entry))) (response identifier (now (parameters .entry)) (now (nas .entry))) ⌝ }
     ensures count { λ r. ⌜ r ≡ length (response identifier (now (parameters .entry)) (now (nas .entry))) ⌝ }
 {
-    zero(packet);
     let m = parameters.len();
     let n = nas.len();
     put_header(packet, identifier, (18 + m + n) as u64);
     put_block(packet, 14, parameters);
     put_block(packet, 16 + m, nas);
     18 + m + n
+}
+
+// Writes a NAS response and zeros after it; of an identifier its lowest octet.
+fn put_response(identifier: u64, parameters: &[u8], nas: &[u8], packet: &mut [u8]) -> usize
+    requires { ⌜ 18 + length (now parameters) + length (now nas) ≤ length (now packet) ⌝ }
+    ensures buffer { λ _. ⌜ now (packet .exit) ≡ padded (length (now (packet .entry))) (response identifier (now (parameters .entry)) (now (nas .entry))) ⌝ }
+    ensures count { λ r. ⌜ r ≡ length (response identifier (now (parameters .entry)) (now (nas .entry))) ⌝ }
+{
+    zero(packet);
+    fill_response(identifier, parameters, nas, packet)
 }
 
 // Writes a NAS response and zeros after it, or zeros alone and the number of the refusal.

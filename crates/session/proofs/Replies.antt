@@ -3,7 +3,7 @@ use Prim.Native.Nat.{ℕ, _+_, _≤_, suc}
 use mathlib.Core.Bool.{true, false}
 use mathlib.Core.List.{List, []}
 use mathlib.Core.Option.{none, some}
-use mathlib.Core.Path.{_≡_, refl, ap, _∙_}
+use mathlib.Core.Path.{_≡_, refl, sym, ap, _∙_}
 use native.Mathlib.Omega.{arith}
 use lib.Dec.{ltb}
 use lib.ListN.{length}
@@ -36,6 +36,10 @@ pub fits : (p n : List ℕ) → lentOutOfRange p n ≡ false → (room : ℕ) �
 fits p n fit room enough z clear =
     let short = in-range p n fit in
     omega (arith, ap length clear ∙ length-zeros room)
+
+-- and such a buffer is zeros
+pub clear : (z : List ℕ) (room : ℕ) → z ≡ zeros room → z ≡ zeros (length z)
+clear z room e = e ∙ ap zeros (sym (ap length e ∙ length-zeros room))
 
 -- what the tests of a reply tell where it is not refused by 8
 pub record Passed (p n : List ℕ) (time : ℕ) (f : Record) : Type 0 where

@@ -5,8 +5,8 @@ use parameters::well_formed;
 use phase::Phase;
 use phase::Turn;
 use record::Record;
+use response::fill_response;
 use response::is_out_of_range;
-use response::put_response;
 use rules::Action;
 use step::Stepped;
 use step::current;
@@ -147,7 +147,7 @@ pub fn reply(line: Record, time: u64, parameters: &[u8], nas: &[u8], buffer: &mu
     let (Turn::First(identifier) | Turn::Owed(identifier)) = turn else {
         return refused(line, 10);
     };
-    let n = put_response(identifier, parameters, nas, buffer);
+    let n = fill_response(identifier, parameters, nas, buffer);
     goes(
         found,
         Phase::Eap(a, Turn::Answered(identifier)),

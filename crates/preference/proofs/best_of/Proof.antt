@@ -1,5 +1,6 @@
 -- `preference::best_of` meets its contract. The loop's invariant: the best of the records behind is found.
 use Prim.Native.Nat.{_-_, _≤_}
+use mathlib.Core.List.{map}
 use mathlib.Core.Option.{some}
 use mathlib.Core.Path.{_≡_, sym, ap, _∙_}
 use native.Mathlib.Nat.{le-refl}
@@ -9,7 +10,7 @@ use denote.Ref.{now}
 use borrow.Author.Needs.{needs}
 use Rattle.octets.specs.Row.{only}
 use Rattle.network.specs.Plmn.{plmnOption}
-use Rattle.config.specs.Settings.{plmnIn, settingsIn}
+use Rattle.config.specs.Settings.{listedIn, plmnIn, settingsIn}
 use Rattle.lists.specs.Lists.{networksIn}
 use Rattle.preference.specs.Preference.{best, eligible}
 use Rattle.preference.specs.Branch.{whereFound}
@@ -19,13 +20,16 @@ use Rattle.preference.proofs.best_of.Tie as tie
 
 abbrev Inv-loop : tie.InvT-loop
 Inv-loop n config networks place list top₀ found₀ i₀ top found i =
-    (i ≤ n) × (whereFound found top ≡ best (only (eligible (settingsIn config) (networksIn networks) place) (drop i (take n list))))
+    (i ≤ n) × (whereFound found top ≡ best (only (eligible (settingsIn config) (networksIn networks) place) (map listedIn (drop i (take n list)))))
 
 abbrev μ-loop : tie.MeasureT-loop
 μ-loop n config networks place list top₀ found₀ i₀ top found i = i
 
-array-copy-out-top : tie.Need-array-copy-out-top Inv-loop μ-loop
-array-copy-out-top c = search needs
+array-read-listed-in : tie.Need-array-read-listed-in Inv-loop μ-loop
+array-read-listed-in c = search needs
+
+listed-in-requires : tie.Need-listed-in-requires Inv-loop μ-loop
+listed-in-requires c κs = search needs
 
 loop-holds : tie.Need-loop-holds Inv-loop μ-loop
 unfolding whereFound
@@ -38,11 +42,14 @@ loop-holds c =
 sub-i : tie.Need-sub-i Inv-loop μ-loop
 sub-i c = search needs
 
-mul-x : tie.Need-mul-x Inv-loop μ-loop
-mul-x c = search needs
+mul-listed-in : tie.Need-mul-listed-in Inv-loop μ-loop
+mul-listed-in c = search needs
 
-array-copy-out-x : tie.Need-array-copy-out-x Inv-loop μ-loop
-array-copy-out-x c = search needs
+array-read-listed-in-2 : tie.Need-array-read-listed-in-2 Inv-loop μ-loop
+array-read-listed-in-2 c = search needs
+
+listed-in-requires-2 : tie.Need-listed-in-requires-2 Inv-loop μ-loop
+listed-in-requires-2 c κs = search needs
 
 is-eligible-requires : tie.Need-is-eligible-requires Inv-loop μ-loop
 is-eligible-requires c κs = c .before .before .before .before .before .pre .1
@@ -60,7 +67,7 @@ loop-again c =
     let at-loop = c .before .before .before .before .before .loop in
     let p = eligible (settingsIn (a .config)) (networksIn (now (a .networks))) (a .place) in
     let long : a .n ≤ length (a .t1) = search needs in
-    (omega arith, ap some (c .better-of .ensures) ∙ best-more p (a .t1) (a .n) (at-loop .i - 1) long (at-loop .i) (omega arith) (omega arith) _ (at-loop .inv .1) (sym (c .before .before .is-eligible .ensures) ∙ c .before .if1 .taken))
+    (omega arith, ap some (c .better-of .ensures) ∙ best-more p (a .t1) (a .n) (at-loop .i - 1) long (at-loop .i) (omega arith) (omega arith) _ (c .before .before .before .listed-in2 .ensures) _ (at-loop .inv .1) (sym (c .before .before .is-eligible .ensures) ∙ c .before .if1 .taken))
 
 loop-less-2 : tie.Need-loop-less-2 Inv-loop μ-loop
 loop-less-2 c = search needs
@@ -71,7 +78,7 @@ loop-again-2 c =
     let at-loop = c .before .before .before .before .loop in
     let p = eligible (settingsIn (a .config)) (networksIn (now (a .networks))) (a .place) in
     let long : a .n ≤ length (a .t1) = search needs in
-    (omega arith, best-same p (a .t1) (a .n) (at-loop .i - 1) long (at-loop .i) (omega arith) (omega arith) _ (at-loop .inv .1) (sym (c .before .is-eligible .ensures) ∙ c .if1 .left))
+    (omega arith, best-same p (a .t1) (a .n) (at-loop .i - 1) long (at-loop .i) (omega arith) (omega arith) _ (c .before .before .listed-in2 .ensures) _ (at-loop .inv .1) (sym (c .before .is-eligible .ensures) ∙ c .if1 .left))
 
 returns : tie.Need-returns Inv-loop μ-loop
 unfolding plmnOption plmnIn
@@ -93,11 +100,13 @@ best-of-spec =
     (tie.spec
     Inv-loop
     μ-loop
-    array-copy-out-top
+    array-read-listed-in
+    listed-in-requires
     loop-holds
     sub-i
-    mul-x
-    array-copy-out-x
+    mul-listed-in
+    array-read-listed-in-2
+    listed-in-requires-2
     is-eligible-requires
     better-of-requires
     loop-less

@@ -8,7 +8,7 @@ use Rattle.phase.specs.Stage as Stage
 use Rattle.phase.proofs.Stages.{other-stage, tags}
 use Rattle.rules.specs.Phases.{owed, turnIn}
 use Rattle.step.proofs.Steps.{late}
-use Rattle.session.proofs.Replies.{Passed, answered, away, fits, ill-formed, lacking, none-owed, out}
+use Rattle.session.proofs.Replies.{Passed, answered, away, clear, fits, ill-formed, lacking, none-owed, out}
 use Rattle.session.proofs.Turns.{no-turn, owes}
 use Rattle.session.proofs.reply.Statement.{statement}
 use Rattle.session.proofs.reply.Tie as tie
@@ -150,11 +150,11 @@ returns-6 c =
     none-owed _ _ _ _ _ _ _ (found c3 .current .ensures .0) _ (found c3 .before .before .before .zero .ensures) (passed c3) formed
     (rw (told .phase .given .1, c .before .enum-told .given .1)) (c .refused6 .ensures)
 
-put-response-requires : tie.Need-put-response-requires
-put-response-requires c κs =
+fill-response-requires : tie.Need-fill-response-requires
+fill-response-requires c κs =
     let c2 = c .before .before .before .before .before .before .before .before .before in
     let zeroed = c2 .before .before .before .before .before .before .before in
-    fits _ _ (sym (c2 .before .is-out-of-range .ensures) ∙ c2 .if2 .left) _ (zeroed .before .before .before .before .before .pre .1) _ (zeroed .zero .ensures)
+    (fits _ _ (sym (c2 .before .is-out-of-range .ensures) ∙ c2 .if2 .left) _ (zeroed .before .before .before .before .before .pre .1) _ (zeroed .zero .ensures), clear _ _ (zeroed .zero .ensures))
 
 goes-requires : tie.Need-goes-requires
 goes-requires c κs = search needs
@@ -163,12 +163,12 @@ same-length-7 : tie.Need-same-length-7
 same-length-7 c =
     let put = c .before .before .before in
     let zeroed = put .before .before .before .before .before .before .before .before .before .before .before .before .before .before .before .before .before in
-    put .put-response .kept .1 .1 .1 .0 ∙ zeroed .zero .kept .0
+    put .fill-response .kept .1 .1 .1 .0 ∙ zeroed .zero .kept .0
 
 returns-7 : tie.Need-returns-7
 unfolding owed
 returns-7 c =
-    let put = c .before .before .before .put-response .ensures in
+    let put = c .before .before .before .fill-response .ensures in
     let told = c .before .before .before .before .before in
     let c4 = told .before .before .before .before in
     let c3 = c4 .before .before in
@@ -209,7 +209,7 @@ reply-spec =
     refused-requires-6
     same-length-6
     returns-6
-    put-response-requires
+    fill-response-requires
     goes-requires
     same-length-7
     returns-7)

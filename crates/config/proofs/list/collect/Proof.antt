@@ -1,21 +1,22 @@
 -- `config::list::collect` meets its contract. The loop's invariant: the entries collected and those that are left make the whole, and no PLMN
 -- that is collected stands twice.
 use Prim.Native.Nat.{ℕ, _-_, _≤_, _<_}
-use mathlib.Core.Bool.{true}
-use mathlib.Core.List.{List, _++_, map}
+use mathlib.Core.Bool.{Bool, true}
+use mathlib.Core.List.{List, [], _∷_, _++_, map, map-append}
 use mathlib.Core.Path.{_≡_, refl, sym, ap, _∙_, subst}
 use native.Mathlib.Omega.{arith}
-use lib.ListN.{length, take, length-set}
+use lib.ListN.{length, take, length-map, length-set}
 use lib.Seq.{length-take-le}
 use denote.Ref.{now}
 use borrow.Author.Needs.{needs}
 use Rattle.octets.specs.Search.{distinct}
 use Rattle.octets.proofs.Sublists.{stored-behind}
 use Rattle.entry.specs.declared.field.Preferred.{Preferred}
-use Rattle.network.specs.Plmn.{samePlmn}
+use Rattle.network.specs.Plmn.{among, samePlmn}
+use Rattle.network.specs.declared.Plmn.{Plmn}
 use Rattle.config.specs.Lines.{entriesFrom}
 use Rattle.config.specs.Branch.{ListedIs}
-use Rattle.config.specs.Settings.{mostListed, plmnIn, asListed, section, rest}
+use Rattle.config.specs.Settings.{listedIn, mostListed, plmnIn, asListed, section, rest}
 use Rattle.config.specs.declared.list.Listed.{Listed}
 use Rattle.config.proofs.Collects.{not-accepted, all-collected, all-accepted, too-many, repeated, one-more, still-new}
 use Rattle.config.proofs.list.collect.Statement.{statement}
@@ -24,15 +25,15 @@ use Rattle.config.proofs.list.collect.Tie as tie
 abbrev Inv-loop : tie.InvT-loop
 Inv-loop text start kind list₀ count₀ at₀ list count at =
     (at ≤ length text) × (count ≤ mostListed) × (length list ≡ mostListed)
-    × (section (asListed kind) (entriesFrom text start) ≡ take count list ++ section (asListed kind) (entriesFrom text at))
+    × (section (asListed kind) (entriesFrom text start) ≡ map listedIn (take count list) ++ section (asListed kind) (entriesFrom text at))
     × (rest (asListed kind) (entriesFrom text start) ≡ rest (asListed kind) (entriesFrom text at))
-    × (distinct samePlmn (map plmnIn (take count list)) ≡ true)
+    × (distinct samePlmn (map plmnIn (map listedIn (take count list))) ≡ true)
 
 abbrev μ-loop : tie.MeasureT-loop
 μ-loop text start kind list₀ count₀ at₀ list count at = length text - at
 
-sized : (l : List Preferred) (n : ℕ) → n ≤ mostListed → length l ≡ mostListed → length (take n l) ≡ n
-sized l n h e = length-take-le n l (omega arith)
+sized : (l : List ℕ) (n : ℕ) → n ≤ mostListed → length l ≡ mostListed → length (map listedIn (take n l)) ≡ n
+sized l n h e = length-map (take n l) listedIn ∙ length-take-le n l (omega arith)
 
 next : (n : ℕ) → n ≤ mostListed → (n ≡ mostListed → ⊥) → n < mostListed
 next n h k = omega arith
@@ -47,8 +48,8 @@ loop-holds c = (c .before .pre, search needs, search needs, refl, refl, refl)
 listed-at-requires : tie.Need-listed-at-requires Inv-loop μ-loop
 listed-at-requires c κs = c .loop .inv .0
 
-enum-known-p : tie.Need-enum-known-p Inv-loop μ-loop
-enum-known-p c = search needs
+enum-known-x : tie.Need-enum-known-x Inv-loop μ-loop
+enum-known-x c = search needs
 
 enum-told : tie.Need-enum-told Inv-loop μ-loop
 enum-told c = search needs
@@ -58,7 +59,7 @@ returns c =
     let a = c .before .before .before .before .before .args in
     let at-loop = c .before .before .before .loop in
     let none = subst (λ (r : Listed). ListedIs (a .kind) (now (a .text)) (at-loop .at) r) (c .enum-told .given .1) (c .before .before .listed-at .ensures) in
-    let d = take (at-loop .count) (at-loop .list) in
+    let d = map listedIn (take (at-loop .count) (at-loop .list)) in
     let few : length d ≤ mostListed = subst (λ (k : ℕ). k ≤ mostListed) (sym (sized (at-loop .list) (at-loop .count) (at-loop .inv .1) (at-loop .inv .2))) (at-loop .inv .1) in
     record {
       ok-is = all-accepted _ d _ (at-loop .inv .3) (at-loop .inv .5) (none .0) few;
@@ -75,10 +76,13 @@ returns-2 : tie.Need-returns-2 Inv-loop μ-loop
 returns-2 c =
     let a = c .before .before .before .before .before .before .before .before .args in
     let at-loop = c .before .before .before .before .before .before .loop in
-    let one = subst (λ (r : Listed). ListedIs (a .kind) (now (a .text)) (at-loop .at) r) (c .before .before .before .p .given .1) (c .before .before .before .before .before .listed-at .ensures) in
-    let d = take (at-loop .count) (at-loop .list) in
+    let one = subst (λ (r : Listed). ListedIs (a .kind) (now (a .text)) (at-loop .at) r) (c .before .before .before .x .given .1) (c .before .before .before .before .before .listed-at .ensures) in
+    let d = map listedIn (take (at-loop .count) (at-loop .list)) in
     not-accepted (a .kind) (now (a .text)) (a .start) _ (c .refused .ensures)
     (too-many _ d _ (at-loop .inv .3) (at-loop .inv .5) _ _ (one .0) (sized (at-loop .list) (at-loop .count) (at-loop .inv .1) (at-loop .inv .2) ∙ c .before .if1 .taken))
+
+listed-in-requires : tie.Need-listed-in-requires Inv-loop μ-loop
+listed-in-requires c κs = search needs
 
 has-preferred-requires : tie.Need-has-preferred-requires Inv-loop μ-loop
 has-preferred-requires c κs = search needs
@@ -86,50 +90,53 @@ has-preferred-requires c κs = search needs
 refused-requires-2 : tie.Need-refused-requires-2 Inv-loop μ-loop
 refused-requires-2 c κs = search needs
 
-returns-3 : tie.Need-returns-3 Inv-loop μ-loop
+-- the PLMN of the entry that was read
+found : (q p : Preferred) (ps : List Plmn) (t r : Bool) → q ≡ p → r ≡ among (q .plmn) ps → r ≡ t → among (plmnIn p) ps ≡ t
 unfolding plmnIn
+found q p ps t r e h k = ap (λ (s : Preferred). among (s .plmn) ps) (sym e) ∙ sym h ∙ k
+
+returns-3 : tie.Need-returns-3 Inv-loop μ-loop
 returns-3 c =
-    let a = c .before .before .before .before .before .before .before .before .before .before .args in
-    let at-loop = c .before .before .before .before .before .before .before .before .loop in
-    let one = subst (λ (r : Listed). ListedIs (a .kind) (now (a .text)) (at-loop .at) r) (c .before .before .before .before .before .p .given .1) (c .before .before .before .before .before .before .before .listed-at .ensures) in
-    let d = take (at-loop .count) (at-loop .list) in
+    let a = c .before .before .before .before .before .before .before .before .before .before .before .args in
+    let at-loop = c .before .before .before .before .before .before .before .before .before .loop in
+    let one = subst (λ (r : Listed). ListedIs (a .kind) (now (a .text)) (at-loop .at) r) (c .before .before .before .before .before .before .x .given .1) (c .before .before .before .before .before .before .before .before .listed-at .ensures) in
+    let d = map listedIn (take (at-loop .count) (at-loop .list)) in
     not-accepted (a .kind) (now (a .text)) (a .start) _ (c .refused2 .ensures)
-    (repeated _ d _ (at-loop .inv .3) (at-loop .inv .5) _ _ (one .0) (sym (c .before .before .has-preferred .ensures) ∙ c .before .if2 .taken))
+    (repeated _ d _ (at-loop .inv .3) (at-loop .inv .5) _ _ (one .0) (found _ _ _ _ _ (c .before .before .before .listed-in .ensures) (c .before .before .has-preferred .ensures) (c .before .if2 .taken)))
 
 mul-list : tie.Need-mul-list Inv-loop μ-loop
 mul-list c = search needs
 
-array-set-from-list : tie.Need-array-set-from-list Inv-loop μ-loop
-array-set-from-list c = search needs
+array-write-list : tie.Need-array-write-list Inv-loop μ-loop
+array-write-list c = search needs
 
 add-count : tie.Need-add-count Inv-loop μ-loop
 add-count c = search needs
 
 loop-less : tie.Need-loop-less Inv-loop μ-loop
 loop-less c =
-    let a = c .before .before .before .before .before .before .before .before .before .args in
-    let at-loop = c .before .before .before .before .before .before .before .loop in
-    let one = subst (λ (r : Listed). ListedIs (a .kind) (now (a .text)) (at-loop .at) r) (c .before .before .before .before .p .given .1) (c .before .before .before .before .before .before .listed-at .ensures) in
+    let a = c .before .before .before .before .before .before .before .before .before .before .args in
+    let at-loop = c .before .before .before .before .before .before .before .before .loop in
+    let one = subst (λ (r : Listed). ListedIs (a .kind) (now (a .text)) (at-loop .at) r) (c .before .before .before .before .before .x .given .1) (c .before .before .before .before .before .before .before .listed-at .ensures) in
     falls (at-loop .at) _ (length (now (a .text))) (one .2) (one .3)
 
 loop-again : tie.Need-loop-again Inv-loop μ-loop
-unfolding plmnIn
 loop-again c =
-    let a = c .before .before .before .before .before .before .before .before .before .args in
-    let at-loop = c .before .before .before .before .before .before .before .loop in
-    let one = subst (λ (r : Listed). ListedIs (a .kind) (now (a .text)) (at-loop .at) r) (c .before .before .before .before .p .given .1) (c .before .before .before .before .before .before .listed-at .ensures) in
-    let room : at-loop .count < mostListed = next (at-loop .count) (at-loop .inv .1) (c .before .before .if1 .left) in
-    let d = take (at-loop .count) (at-loop .list) in
-    let p = c .before .before .before .before .p .given .0 .0 in
-    let Y = section (asListed (a .kind)) (entriesFrom (now (a .text)) (c .before .before .before .before .p .given .0 .1 .0)) in
-    let longer = stored-behind (at-loop .list) (at-loop .count) p (omega arith) in (
+    let a = c .before .before .before .before .before .before .before .before .before .before .args in
+    let at-loop = c .before .before .before .before .before .before .before .before .loop in
+    let one = subst (λ (r : Listed). ListedIs (a .kind) (now (a .text)) (at-loop .at) r) (c .before .before .before .before .before .x .given .1) (c .before .before .before .before .before .before .before .listed-at .ensures) in
+    let room : at-loop .count < mostListed = next (at-loop .count) (at-loop .inv .1) (c .before .before .before .if1 .left) in
+    let d = map listedIn (take (at-loop .count) (at-loop .list)) in
+    let x = c .before .before .before .before .before .x .given .0 .0 in
+    let Y = section (asListed (a .kind)) (entriesFrom (now (a .text)) (c .before .before .before .before .before .x .given .0 .1 .0)) in
+    let longer = ap (map listedIn) (stored-behind (at-loop .list) (at-loop .count) x (omega arith)) ∙ map-append listedIn (take (at-loop .count) (at-loop .list)) (x ∷ []) in (
       one .3,
       omega arith,
-      length-set (at-loop .list) (at-loop .count) p ∙ at-loop .inv .2,
-      one-more _ d _ (at-loop .inv .3) (at-loop .inv .5) p Y (one .0) ∙ ap (λ (l : List Preferred). l ++ Y) (sym longer),
+      length-set (at-loop .list) (at-loop .count) x ∙ at-loop .inv .2,
+      one-more _ d _ (at-loop .inv .3) (at-loop .inv .5) (listedIn x) Y (one .0) ∙ ap (λ (l : List Preferred). l ++ Y) (sym longer),
       at-loop .inv .4 ∙ one .1,
       ap (λ (l : List Preferred). distinct samePlmn (map plmnIn l)) longer
-          ∙ still-new _ d _ (at-loop .inv .3) (at-loop .inv .5) p Y (one .0) (sym (c .before .has-preferred .ensures) ∙ c .if2 .left),
+          ∙ still-new _ d _ (at-loop .inv .3) (at-loop .inv .5) (listedIn x) Y (one .0) (found _ _ _ _ _ (c .before .before .listed-in .ensures) (c .before .has-preferred .ensures) (c .if2 .left)),
     )
 
 pub collect-spec : {M : Type 1} → statement M
@@ -140,16 +147,17 @@ collect-spec =
     μ-loop
     loop-holds
     listed-at-requires
-    enum-known-p
+    enum-known-x
     enum-told
     returns
     refused-requires
     returns-2
+    listed-in-requires
     has-preferred-requires
     refused-requires-2
     returns-3
     mul-list
-    array-set-from-list
+    array-write-list
     add-count
     loop-less
     loop-again)

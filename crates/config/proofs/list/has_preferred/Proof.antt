@@ -2,7 +2,7 @@
 use Prim.Native.Nat.{ℕ, _+_, _-_, _≤_, _<_}
 use mathlib.Core.Bool.{Bool, true, false, _||_}
 use mathlib.Core.List.{List, map}
-use mathlib.Core.Path.{_≡_, refl, sym, _∙_}
+use mathlib.Core.Path.{_≡_, refl, sym, ap, _∙_}
 use lib.ListN.{length, getD, take, drop}
 use borrow.Author.Needs.{needs}
 use Rattle.octets.specs.Search.{anyOf}
@@ -10,40 +10,39 @@ use Rattle.network.specs.declared.Plmn.{Plmn}
 use Rattle.entry.specs.declared.field.Preferred.{Preferred}
 use Rattle.octets.proofs.Rows.{left-more, left-none}
 use Rattle.network.specs.Plmn.{among, samePlmn}
-use Rattle.config.specs.Settings.{plmnIn}
+use Rattle.config.specs.Settings.{listedIn, plmnIn}
 use Rattle.config.proofs.list.has_preferred.Statement.{statement}
 use Rattle.config.proofs.list.has_preferred.Tie as tie
 
 abbrev Inv-loop : tie.InvT-loop
-Inv-loop n p list i₀ i = (i ≤ n) × (among p (map plmnIn (take n list)) ≡ among p (map plmnIn (drop i (take n list))))
+Inv-loop n p list i₀ i = (i ≤ n) × (among p (map plmnIn (map listedIn (take n list))) ≡ among p (map plmnIn (map listedIn (drop i (take n list)))))
 
 abbrev μ-loop : tie.MeasureT-loop
 μ-loop n p list i₀ i = n - i
 
--- what stands past the end of a list
-abbrev none : Preferred
-none = record { plmn = record { mcc = 0; mnc = 0 }; priority = 0 }
-
-module _ (l : List Preferred) (n i : ℕ) (p : Plmn) (long : n ≤ length l) where
+module _ (l : List ℕ) (n i : ℕ) (p : Plmn) (long : n ≤ length l) where
   -- the next PLMN decides first
-  next : i < n → (t : Bool) → samePlmn p (getD l i none .plmn) ≡ t
-      → among p (map plmnIn (drop i (take n l))) ≡ t || among p (map plmnIn (drop (i + 1) (take n l)))
+  next : i < n → (t : Bool) → samePlmn p (listedIn (getD l i 0) .plmn) ≡ t
+      → among p (map plmnIn (map listedIn (drop i (take n l)))) ≡ t || among p (map plmnIn (map listedIn (drop (i + 1) (take n l))))
   unfolding among anyOf plmnIn
-  next h t e = rw (left-more l n i long none h, e)
+  next h t e = rw (left-more l n i long 0 h, e)
 
   -- none is left
-  done : n ≤ i → among p (map plmnIn (drop i (take n l))) ≡ false
+  done : n ≤ i → among p (map plmnIn (map listedIn (drop i (take n l)))) ≡ false
   unfolding among anyOf
   done h = rw (left-none l n i long h)
 
 loop-holds : tie.Need-loop-holds Inv-loop μ-loop
 loop-holds c = (search needs, refl)
 
-mul-q : tie.Need-mul-q Inv-loop μ-loop
-mul-q c = search needs
+mul-listed-in : tie.Need-mul-listed-in Inv-loop μ-loop
+mul-listed-in c = search needs
 
-array-copy-out-q : tie.Need-array-copy-out-q Inv-loop μ-loop
-array-copy-out-q c = search needs
+array-read-listed-in : tie.Need-array-read-listed-in Inv-loop μ-loop
+array-read-listed-in c = search needs
+
+listed-in-requires : tie.Need-listed-in-requires Inv-loop μ-loop
+listed-in-requires c κs = search needs
 
 same-plmn-requires : tie.Need-same-plmn-requires Inv-loop μ-loop
 same-plmn-requires c κs = search needs
@@ -53,7 +52,7 @@ returns c =
     let a = c .before .before .before .before .before .args in
     let at-loop = c .before .before .before .before .loop in
     let long : a .n ≤ length (a .t1) = search needs in
-    sym (at-loop .inv .1 ∙ next (a .t1) (a .n) (at-loop .i) (a .p) long (c .before .before .before .loop-test .taken) true (sym (c .before .same-plmn .ensures) ∙ c .if1 .taken))
+    sym (at-loop .inv .1 ∙ next (a .t1) (a .n) (at-loop .i) (a .p) long (c .before .before .before .loop-test .taken) true (ap (λ (q : Preferred). samePlmn (a .p) (q .plmn)) (sym (c .before .before .listed-in .ensures)) ∙ sym (c .before .same-plmn .ensures) ∙ c .if1 .taken))
 
 add-i : tie.Need-add-i Inv-loop μ-loop
 add-i c = search needs
@@ -66,7 +65,7 @@ loop-again c =
     let a = c .before .before .before .before .before .args in
     let at-loop = c .before .before .before .before .loop in
     let long : a .n ≤ length (a .t1) = search needs in
-    (search needs, at-loop .inv .1 ∙ next (a .t1) (a .n) (at-loop .i) (a .p) long (c .before .before .before .loop-test .taken) false (sym (c .before .same-plmn .ensures) ∙ c .if1 .left))
+    (search needs, at-loop .inv .1 ∙ next (a .t1) (a .n) (at-loop .i) (a .p) long (c .before .before .before .loop-test .taken) false (ap (λ (q : Preferred). samePlmn (a .p) (q .plmn)) (sym (c .before .before .listed-in .ensures)) ∙ sym (c .before .same-plmn .ensures) ∙ c .if1 .left))
 
 returns-2 : tie.Need-returns-2 Inv-loop μ-loop
 returns-2 c =
@@ -81,8 +80,9 @@ has-preferred-spec =
     Inv-loop
     μ-loop
     loop-holds
-    mul-q
-    array-copy-out-q
+    mul-listed-in
+    array-read-listed-in
+    listed-in-requires
     same-plmn-requires
     returns
     add-i

@@ -15,7 +15,9 @@ enum-known-e : tie.Need-enum-known-e
 enum-known-e c = search needs
 
 of-kind-requires : tie.Need-of-kind-requires
-of-kind-requires c κs = search needs
+of-kind-requires c κs =
+    let a = c .before .before .before .before .before .args in
+    subst (λ (r : TextLine). LineIs (now (a .text)) (a .at) r) (c .before .e .given .1) (c .before .before .before .line-at .ensures) .5
 
 enum-told : tie.Need-enum-told
 enum-told c = search needs

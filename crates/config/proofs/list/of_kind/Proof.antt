@@ -1,6 +1,9 @@
 -- `config::list::of_kind` meets its contract: the entry and the kind pick the case.
-use mathlib.Core.Path.{refl, sym, ap, ap₂}
+use mathlib.Core.Option.{some}
+use mathlib.Core.Path.{refl, sym, ap, ap₂, _∙_, subst}
+use native.Mathlib.Omega.{arith}
 use borrow.Author.Needs.{needs}
+use Rattle.entry.specs.Entry.{Bounded}
 use Rattle.config.specs.Branch.{listedOf}
 use Rattle.config.specs.Settings.{asListed}
 use Rattle.config.proofs.list.of_kind.Statement.{statement}
@@ -11,6 +14,9 @@ enum-known-e c = search needs
 
 enum-told : tie.Need-enum-told
 enum-told c = search needs
+
+number-of-requires : tie.Need-number-of-requires
+number-of-requires c κs = subst Bounded (c .before .before .before .e .given .1) (c .before .before .before .before .before .pre)
 
 enum-told-2 : tie.Need-enum-told-2
 enum-told-2 c = search needs
@@ -23,6 +29,9 @@ enum-told-3 c = search needs
 
 enum-told-4 : tie.Need-enum-told-4
 enum-told-4 c = search needs
+
+number-of-requires-2 : tie.Need-number-of-requires-2
+number-of-requires-2 c κs = (subst Bounded (c .before .before .before .e2 .given .1) (c .before .before .before .before .before .pre), omega arith)
 
 enum-told-5 : tie.Need-enum-told-5
 enum-told-5 c = search needs
@@ -38,7 +47,7 @@ enum-told-8 c = search needs
 
 returns : tie.Need-returns
 unfolding asListed listedOf
-returns c = (sym (ap₂ asListed (c .enum-told .given .1) (c .before .before .before .e .given .1)), refl)
+returns c = (ap some (c .number-of .ensures) ∙ sym (ap₂ asListed (c .before .enum-told .given .1) (c .before .before .before .before .e .given .1)), refl)
 
 returns-2 : tie.Need-returns-2
 unfolding asListed listedOf
@@ -50,7 +59,7 @@ returns-3 c = (sym (ap₂ asListed (c .enum-told3 .given .1) (c .before .before 
 
 returns-4 : tie.Need-returns-4
 unfolding asListed listedOf
-returns-4 c = (sym (ap₂ asListed (c .enum-told4 .given .1) (c .before .before .before .e2 .given .1)), refl)
+returns-4 c = (ap some (c .number-of2 .ensures) ∙ sym (ap₂ asListed (c .before .enum-told4 .given .1) (c .before .before .before .before .e2 .given .1)), refl)
 
 returns-5 : tie.Need-returns-5
 unfolding asListed listedOf
@@ -74,10 +83,12 @@ of-kind-spec =
     (tie.spec
     enum-known-e
     enum-told
+    number-of-requires
     enum-told-2
     enum-known-e-2
     enum-told-3
     enum-told-4
+    number-of-requires-2
     enum-told-5
     enum-told-6
     enum-told-7

@@ -5,7 +5,7 @@ use mathlib.Core.Path.{ap, _∙_}
 use lib.ListN.{take}
 use borrow.Author.Needs.{needs}
 use borrow.Author.Tests.{not-true, not-false}
-use Rattle.config.specs.Settings.{parsed, plmnIn, settingsIn}
+use Rattle.config.specs.Settings.{listedIn, parsed, plmnIn, settingsIn}
 use Rattle.config.specs.declared.Node.{Node}
 use Rattle.config.proofs.Wholes.{bad-plmns, bad-bars, unfinished, finished}
 use Rattle.config.proofs.parse.settled.Statement.{statement}
@@ -43,7 +43,7 @@ unfolding parsed settingsIn
 returns-4 c =
     let P = c .before .before .before .before .before .before .before .before .before .collect .result in
     let Q = c .before .before .before .before .before .before .collect2 .result in (
-      ap (λ (n : Node). some (record { home = c .before .before .before .before .before .before .before .before .before .before .before .before .args .home; node = n; plmns = take (P .count) (P .list); bars = map plmnIn (take (Q .count) (Q .list)) })) (c .before .before .before .before .before .before .before .before .before .before .node-at .ensures .node-is)
+      ap (λ (n : Node). some (record { home = c .before .before .before .before .before .before .before .before .before .before .before .before .args .home; node = n; plmns = map listedIn (take (P .count) (P .list)); bars = map plmnIn (map listedIn (take (Q .count) (Q .list))) })) (c .before .before .before .before .before .before .before .before .before .before .node-at .ensures .node-is)
           ∙ finished _ _ _ _ _ (c .before .before .before .before .before .before .before .before .before .before .node-at .ensures .rest-is) _ (c .before .before .before .before .before .before .before .before .before .collect .ensures) (not-false _ (c .before .before .before .before .before .before .before .if1 .left)) _ (c .before .before .before .before .before .before .collect2 .ensures) (not-false _ (c .before .before .before .before .if2 .left)) (c .before .before .if3 .left),
       record {
         counted = record {
