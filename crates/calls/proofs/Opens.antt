@@ -119,9 +119,9 @@ module _ (l : List ℕ) (tenant line n : ℕ) (number : n ≡ refusal (firstRefu
             turned-away opens (λ k. refl) l 6 (λ z. omega (arith, z))
             (open-full tenant line (viewIn opens l) sound pair-is refl (seen-open none none-there) (open-found l freePair ∙ le-ltb (recordOf l freePair) 32 (omega (arith, found))))
 
-        pub opened : at < 32 → (pair : ℕ) → pair ≡ pairOf tenant line → (x : Line) → x ≡ fresh → (m : List ℕ) → Wrote l (recordLength * at) (recordOctets pair x) m
+        pub opened : at < 32 → (pair : ℕ) → pair ≡ pairOf tenant line → (m : List ℕ) → Wrote l (recordLength * at) (recordOctets pair fresh) m
             → returned 0 [] [] [] m ≡ run opens l
         unfolding returned stepOf step applied bare put slotOctets viewIn viewOf isNoPair isShort roomOf leastRoom
-        opened room pair is x new m w =
-            rw (w .wrote, found, is, new)
+        opened room pair is m w =
+            rw (w .wrote, found, is)
             (sym (accepted opens l (open-goes tenant line (viewIn opens l) sound pair-is refl (seen-open none none-there) (open-found l freePair ∙ lt-ltb (recordOf l freePair) 32 (omega (arith, found))))))

@@ -2,6 +2,7 @@
 pub mod lines;
 pub mod selecting;
 pub mod signalling;
+pub mod tunnels;
 
 use octets::slice::zero;
 ghost use mathlib.Core.Path.{_≡_};

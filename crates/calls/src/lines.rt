@@ -2,15 +2,14 @@
 use crate::refuse;
 use frame::answer::numbers;
 use frame::checked;
-use frame::fresh;
 use listing::LISTING_ROOM;
 use rules::Action;
 use rules::pair_of;
 use table::FREE_PAIR;
 use table::RECORDS;
 use table::erase;
+use table::open_at;
 use table::record_of;
-use table::store;
 ghost use mathlib.Core.List.{[]};
 ghost use mathlib.Core.Path.{_≡_};
 ghost use lib.ListN.{length};
@@ -35,7 +34,7 @@ pub fn open(table: &mut [u8], tenant: u64, line: u64) -> u64
     if RECORDS <= at {
         return 6;
     }
-    store(table, at, pair, fresh());
+    open_at(table, at, pair);
     0
 }
 

@@ -3,6 +3,7 @@ use crate::refuse;
 use attempt::address_answer;
 use attempt::country_answer;
 use frame::enter;
+use frame::move_of;
 use frame::settle;
 use network::NAME_ROOM;
 use rules::StartNumbers;
@@ -48,7 +49,7 @@ pub fn start(
     };
     let found = read_slot(table, entered.at);
     let stepped = attempt::start(found, time, given, text, name);
-    settle(table, entered.pair, entered.at, stepped, answer)
+    settle(table, entered, time, move_of(stepped), answer)
 }
 
 // Takes the answer to the country query.
@@ -72,7 +73,7 @@ pub fn country(
     }
     let found = read_slot(table, entered.at);
     let stepped = country_answer(found, time, replied, networks, text, name);
-    settle(table, entered.pair, entered.at, stepped, answer)
+    settle(table, entered, time, move_of(stepped), answer)
 }
 
 // Takes the answer to the gateway's name: the addresses.
@@ -93,5 +94,5 @@ pub fn address(
     }
     let found = read_slot(table, entered.at);
     let stepped = address_answer(found, time, addresses);
-    settle(table, entered.pair, entered.at, stepped, answer)
+    settle(table, entered, time, move_of(stepped), answer)
 }

@@ -1,23 +1,27 @@
 // From the chosen address to a live line: IKE and EAP-5G.
 use crate::refuse;
 use frame::enter;
+use frame::move_of;
 use frame::settle;
+use frame::settle_held;
+use ike::congestion::congestion;
 use ike::event::IkeEvent;
 use ike::event::step_of;
 use response::REPLY_ROOM;
 use session::eap_packet;
 use table::read_slot;
+use table::unlisted_at;
 ghost use mathlib.Core.List.{[]};
 ghost use mathlib.Core.Path.{_≡_};
 ghost use lib.ListN.{length};
 ghost use Rattle.rules.specs.Answer.{partNamed, PartWithin};
-ghost use Rattle.rules.specs.Call.{eap, timed};
+ghost use Rattle.rules.specs.Call.{congestion, eap, timed};
 ghost use Rattle.rules.specs.Call as Call;
 ghost use Rattle.rules.specs.Run.{run};
 ghost use Rattle.ike.specs.Events.{eventOf};
 ghost use Rattle.calls.specs.Returned.{returned};
 
-// A call whose event comes with numbers alone.
+// A call whose event changes the phase of the line alone and comes with numbers.
 pub fn on_line(
     table: &mut [u8],
     tenant: u64,
@@ -33,9 +37,31 @@ pub fn on_line(
         *answer = [0; 12];
         return entered.refusal;
     }
-    let found = read_slot(table, entered.at);
+    let found = unlisted_at(table, entered.at);
     let stepped = step_of(found, time, event);
-    settle(table, entered.pair, entered.at, stepped, answer)
+    settle(table, entered, time, move_of(stepped), answer)
+}
+
+// Takes a congestion notify with its back-off timer.
+pub fn congested(
+    table: &mut [u8],
+    tenant: u64,
+    line: u64,
+    time: u64,
+    authenticated: u64,
+    timer: u64,
+    answer: &mut [u64; 12],
+) -> u64
+    ensures { λ r. ⌜ returned r (now (answer .exit)) [] [] (now (table .exit)) ≡ run (timed tenant line time (congestion authenticated timer)) (now (table .entry)) ⌝ }
+{
+    let entered = enter(table, tenant, line, time, false);
+    if entered.refusal != 0 {
+        *answer = [0; 12];
+        return entered.refusal;
+    }
+    let found = read_slot(table, entered.at);
+    let stepped = congestion(found, time, authenticated, timer);
+    settle_held(table, entered, time, stepped, answer)
 }
 
 // Takes an EAP packet: Start, a NAS request or Success.
@@ -55,9 +81,9 @@ pub fn eap(
         *answer = [0; 12];
         return entered.refusal;
     }
-    let found = read_slot(table, entered.at);
+    let found = unlisted_at(table, entered.at);
     let stepped = eap_packet(found, time, packet);
-    settle(table, entered.pair, entered.at, stepped, answer)
+    settle(table, entered, time, move_of(stepped), answer)
 }
 
 // Writes the response that is owed, with AN-parameters and NAS.
@@ -77,7 +103,7 @@ pub fn reply(
     if entered.refusal != 0 {
         return refuse(entered.refusal, reply, answer);
     }
-    let found = read_slot(table, entered.at);
+    let found = unlisted_at(table, entered.at);
     let stepped = session::reply(found, time, parameters, nas, reply);
-    settle(table, entered.pair, entered.at, stepped, answer)
+    settle(table, entered, time, move_of(stepped), answer)
 }

@@ -1,5 +1,5 @@
 -- The refusal number of a call by its entry tests, and what they settle of a timed call.
-use Prim.Native.Nat.{ℕ, zero, suc, _+_, _*_, _≤_}
+use Prim.Native.Nat.{ℕ, zero, suc}
 use mathlib.Core.Bool.{Bool, true, false, not, _||_}
 use mathlib.Core.List.{List, []}
 use mathlib.Core.Option.{Option, none, some}
@@ -7,15 +7,13 @@ use mathlib.Core.Path.{_≡_, refl, sym, ap, _∙_}
 use native.Mathlib.Omega.{arith}
 use borrow.Author.Tests.{not-false}
 use lib.Dec.{leb, ltb}
-use lib.ListN.{length}
 use Rattle.octets.specs.Refusal.{refusal}
 use Rattle.octets.specs.Row.{isSome}
 use Rattle.octets.proofs.Refusals.{refusal-ahead, refusal-step}
 use Rattle.record.specs.Line.{Line}
-use Rattle.record.specs.Octets.{lineFrom, recordLength}
-use Rattle.record.specs.Sound.{isRecord}
+use Rattle.record.specs.Octets.{lineFrom}
 use Rattle.table.specs.Slots.{slotsOf}
-use Rattle.table.specs.Table.{isTable, recordOf, slot}
+use Rattle.table.specs.Table.{isTable, slot}
 use Rattle.rules.specs.Answer.{refused}
 use Rattle.rules.specs.Call.{Call, Event, pairOf, tenantOf, timed}
 use Rattle.rules.specs.Refusals.{isAboveLast, isEarly, isFull, isNoPair, isNotOpen, isOpenAlready, isShort, refusals}
@@ -23,7 +21,7 @@ use Rattle.rules.specs.Run.{run, settled, stepOf}
 use Rattle.rules.specs.View.{View, lineOr, lineSeen, ownLine, viewIn, viewOf}
 use Rattle.rules.proofs.Accepted.{own-is}
 use Rattle.step.proofs.Running.{effect-run}
-use Rattle.frame.specs.Entering.{Enters, firstRefusals}
+use Rattle.frame.specs.Entering.{Enters, Stands, firstRefusals}
 use Rattle.frame.specs.declared.Entered.{Entered}
 
 pub above-last : (tenant line : ℕ) → isAboveLast tenant line ≡ leb 16 tenant || leb 4 line
@@ -125,16 +123,13 @@ module _ (tenant line time : ℕ) (short : Bool) (l : List ℕ) (r : Entered) wh
       own = lineFrom (slot l (r .at))
 
       -- none of the tests refuses it
-      pub by-none : ownLine tenant (slotsOf l) line ≡ some own → ltb time (own .time) ≡ false → r .refusal ≡ 0 → r .pair ≡ pairOf tenant line → r .at ≡ recordOf l (r .pair)
-          → recordLength * r .at + recordLength ≤ length l → isRecord (slot l (r .at)) ≡ true → Enters r tenant line time short l
+      pub by-none : ownLine tenant (slotsOf l) line ≡ some own → ltb time (own .time) ≡ false → r .refusal ≡ 0 → r .pair ≡ pairOf tenant line → Stands r l → Enters r tenant line time short l
       unfolding isNoPair ownLine
-      by-none there risen is pair at within used = record {
+      by-none there risen is pair stands = record {
         refused-is = λ h. absurd (h is);
         passes = λ z. record {
           result-is = λ e room. rw pair (effect-run tenant line time e l own sound pair-is (room ∙ long) (seen (some own) e there) risen);
           buffer-fits = long;
-          at-is = at;
-          within = within;
-          used = used;
+          stands = stands;
         };
       }

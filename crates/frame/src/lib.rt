@@ -2,60 +2,34 @@
 pub mod answer;
 
 use crate::answer::numbers;
-use address::Address;
-use address::End;
-use address::HOLDS;
-use address::Hold;
-use children::CHILDREN;
-use children::Child;
 use phase::Phase;
 use record::LINES;
-use record::Record;
 use record::TENANTS;
+use rules::Action;
 use rules::pair_of;
 use step::Stepped;
 use table::RECORDS;
 use table::is_sound;
+use table::keep_at;
+use table::keep_held_at;
+use table::keep_tunnels_at;
 use table::record_of;
-use table::store;
 use table::time_at;
 ghost use mathlib.Core.Path.{_≡_};
-ghost use Prim.Native.Nat.{_+_, _*_, _≤_};
-ghost use lib.ListN.{length};
 ghost use Rattle.octets.specs.Refusal.{refusal};
 ghost use Rattle.record.specs.Line.{lineOf, InArrays};
-ghost use Rattle.record.specs.Octets.{recordLength};
-ghost use Rattle.table.specs.Table.{recordOf};
+ghost use Rattle.record.specs.Changes.{kept, withHolds, withTunnels};
+ghost use Rattle.record.specs.Octets.{lineFrom};
+ghost use Rattle.table.specs.Table.{slot};
 ghost use Rattle.rules.specs.Answer.{numbersOf};
-ghost use Rattle.rules.specs.View.{fresh};
 ghost use Rattle.step.specs.Laws.{storedBy};
-ghost use Rattle.frame.specs.Entering.{firstRefusals, Enters};
+ghost use Rattle.frame.specs.Entering.{firstRefusals, Enters, Stands};
 
 // What the entry tests of a timed call leave: their refusal number, and where that is 0 the pair and the record that the call is about.
 pub struct Entered {
     pub refusal: u64,
     pub pair: u64,
     pub at: usize,
-}
-
-// A line that was just opened.
-pub fn fresh() -> Record
-    ensures { λ r. ⌜ lineOf r ≡ fresh ⌝ }
-    ensures { λ r. ⌜ InArrays r ⌝ }
-{
-    let hold = Hold {
-        address: Address::V4(0),
-        end: End::Never,
-    };
-    let child = Child { spi: 0, session: 0 };
-    Record {
-        time: 0,
-        phase: Phase::Idle,
-        holds: [hold; HOLDS],
-        hold_count: 0,
-        children: [child; CHILDREN],
-        child_count: 0,
-    }
 }
 
 // The refusals by 1, 2 and 3: an unsound table, no such pair, an answer buffer that is too short.
@@ -108,25 +82,96 @@ pub fn enter(table: &[u8], tenant: u64, line: u64, time: u64, short: bool) -> En
     }
 }
 
-// Stores the line that a step leaves, unless it was refused, and answers.
+// What a step answers that changes the phase of its line alone: the refusal number, the phase afterwards, and what the daemon has to do.
+pub struct Moved {
+    pub refusal: u64,
+    pub phase: Phase,
+    pub action: Action,
+}
+
+// The same of a step's answer.
+pub fn move_of(stepped: Stepped) -> Moved
+    ensures { λ r. ⌜ r ≡ record { refusal = stepped .refusal; phase = stepped .line .phase; action = stepped .action } ⌝ }
+{
+    let line = stepped.line;
+    let phase = line.phase;
+    let action = stepped.action;
+    Moved {
+        refusal: stepped.refusal,
+        phase,
+        action,
+    }
+}
+
+// Stores the time and the phase that a step leaves, unless it was refused, and answers.
 pub fn settle(
     table: &mut [u8],
-    pair: u64,
-    at: usize,
+    entered: Entered,
+    time: u64,
+    moved: Moved,
+    answer: &mut [u64; 12],
+) -> u64
+    requires { ⌜ Stands entered (now table) ⌝ }
+    ensures { λ r. ⌜ r ≡ moved .refusal ⌝ }
+    ensures { λ _. ⌜ now (answer .exit) ≡ numbersOf (moved .action) ⌝ }
+    ensures { λ _. ⌜ now (table .exit) ≡ storedBy (moved .refusal) (entered .pair) (kept time (moved .phase) (lineFrom (slot (now (table .entry)) (entered .at)))) (now (table .entry)) ⌝ }
+{
+    let action = moved.action;
+    *answer = numbers(action);
+    if moved.refusal != 0 {
+        return moved.refusal;
+    }
+    let phase = moved.phase;
+    keep_at(table, entered.at, time, phase);
+    0
+}
+
+// The same, with the children that the step leaves.
+pub fn settle_tunnels(
+    table: &mut [u8],
+    entered: Entered,
+    time: u64,
     stepped: Stepped,
     answer: &mut [u64; 12],
 ) -> u64
-    requires { ⌜ (at ≡ recordOf (now table) pair) × (recordLength * at + recordLength ≤ length (now table)) × InArrays (stepped .line) ⌝ }
+    requires { ⌜ Stands entered (now table) × InArrays (stepped .line) ⌝ }
     ensures { λ r. ⌜ r ≡ stepped .refusal ⌝ }
     ensures { λ _. ⌜ now (answer .exit) ≡ numbersOf (stepped .action) ⌝ }
-    ensures { λ _. ⌜ now (table .exit) ≡ storedBy (stepped .refusal) pair (lineOf (stepped .line)) (now (table .entry)) ⌝ }
+    ensures { λ _. ⌜ now (table .exit) ≡ storedBy (stepped .refusal) (entered .pair) (withTunnels (lineOf (stepped .line) .children) (kept time (stepped .line .phase) (lineFrom (slot (now (table .entry)) (entered .at))))) (now (table .entry)) ⌝ }
 {
     let action = stepped.action;
-    let line = stepped.line;
     *answer = numbers(action);
     if stepped.refusal != 0 {
         return stepped.refusal;
     }
-    store(table, at, pair, line);
+    let line = stepped.line;
+    let phase = line.phase;
+    let children = line.children;
+    keep_tunnels_at(table, entered.at, time, phase, children, line.child_count);
+    0
+}
+
+// The same, with the holds that the step leaves.
+pub fn settle_held(
+    table: &mut [u8],
+    entered: Entered,
+    time: u64,
+    stepped: Stepped,
+    answer: &mut [u64; 12],
+) -> u64
+    requires { ⌜ Stands entered (now table) × InArrays (stepped .line) ⌝ }
+    ensures { λ r. ⌜ r ≡ stepped .refusal ⌝ }
+    ensures { λ _. ⌜ now (answer .exit) ≡ numbersOf (stepped .action) ⌝ }
+    ensures { λ _. ⌜ now (table .exit) ≡ storedBy (stepped .refusal) (entered .pair) (withHolds (lineOf (stepped .line) .holds) (kept time (stepped .line .phase) (lineFrom (slot (now (table .entry)) (entered .at))))) (now (table .entry)) ⌝ }
+{
+    let action = stepped.action;
+    *answer = numbers(action);
+    if stepped.refusal != 0 {
+        return stepped.refusal;
+    }
+    let line = stepped.line;
+    let phase = line.phase;
+    let holds = line.holds;
+    keep_held_at(table, entered.at, time, phase, holds, line.hold_count);
     0
 }

@@ -115,6 +115,21 @@ fn ends_at_after(b: &[u8], at: usize, time: u64) -> bool
     (end == 0) | (time < end)
 }
 
+// Whether each of the n holds at a place ends after a time.
+pub fn all_in_force(b: &[u8], at: usize, n: usize, time: u64) -> bool
+    requires { ⌜ (at + holdsRoom ≤ length (now b)) × (n ≤ mostHolds) ⌝ }
+    ensures { λ r. ⌜ r ≡ allOf (endsAfter time) (holdsFrom (now (b .entry)) at n) ⌝ }
+{
+    let mut i = 0;
+    while i < n {
+        if !ends_at_after(b, at + LENGTH * i, time) {
+            return false;
+        }
+        i += 1;
+    }
+    true
+}
+
 // Whether at most 8 holds stand at a place, each with an address and not ended at a time, and zeros behind them.
 pub fn stand_in_force(b: &[u8], at: usize, n: usize, time: u64) -> bool
     requires { ⌜ at + holdsRoom ≤ length (now b) ⌝ }

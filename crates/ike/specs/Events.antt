@@ -1,7 +1,9 @@
 -- The events that come with numbers alone.
-use Rattle.rules.specs.Call.{Event, begin, child-deleted, child-made, congestion, error, final, give-up, ike-delete, init}
+use Rattle.rules.specs.Call.{Event, begin, child-deleted, child-made, error, final, give-up, ike-delete, init}
 use Rattle.ike.specs.declared.event.IkeEvent.{IkeEvent}
 use Rattle.ike.specs.declared.event.IkeEvent.the-variants as IkeEvent
+use Rattle.ike.specs.declared.event.TunnelEvent.{TunnelEvent}
+use Rattle.ike.specs.declared.event.TunnelEvent.the-variants as TunnelEvent
 
 -- an event of the code as one of the rules
 abbrev pub eventOf : IkeEvent → Event
@@ -9,8 +11,10 @@ eventOf IkeEvent.Begin = begin
 eventOf IkeEvent.InitAnswer = init
 eventOf (IkeEvent.FinalAnswer good) = final good
 eventOf (IkeEvent.Error number) = error number
-eventOf (IkeEvent.Congestion authenticated timer) = congestion authenticated timer
 eventOf IkeEvent.GiveUp = give-up
-eventOf (IkeEvent.ChildMade spi session) = child-made spi session
-eventOf (IkeEvent.ChildDeleted spi) = child-deleted spi
-eventOf IkeEvent.IkeDelete = ike-delete
+
+-- the same of an event of a tunnel
+abbrev pub tunnelEventOf : TunnelEvent → Event
+tunnelEventOf (TunnelEvent.ChildMade spi session) = child-made spi session
+tunnelEventOf (TunnelEvent.ChildDeleted spi) = child-deleted spi
+tunnelEventOf TunnelEvent.IkeDelete = ike-delete

@@ -1,6 +1,6 @@
-// The events of IKE as one step.
+// The events of IKE that come with numbers alone, in one step for those that change the phase of a line and in one for those that change its
+// tunnels.
 use crate::begin;
-use crate::congestion::congestion;
 use crate::error;
 use crate::final_answer;
 use crate::give_up;
@@ -10,15 +10,13 @@ use crate::tunnel::child_made;
 use crate::tunnel::ike_delete;
 use record::Record;
 use step::Stepped;
-ghost use mathlib.Core.Bool.{true};
 ghost use mathlib.Core.List.{[]};
 ghost use mathlib.Core.Path.{_≡_};
 ghost use Rattle.record.specs.Line.{lineOf, InArrays};
-ghost use Rattle.record.specs.Sound.{lineSound};
 ghost use Rattle.step.specs.Step.{effect, effectIn};
-ghost use Rattle.ike.specs.Events.{eventOf};
+ghost use Rattle.ike.specs.Events.{eventOf, tunnelEventOf};
 
-// An event that comes with numbers alone.
+// An event that changes the phase alone.
 pub enum IkeEvent {
     Begin,
     InitAnswer,
@@ -26,9 +24,11 @@ pub enum IkeEvent {
     FinalAnswer(u64),
     // The error's number.
     Error(u64),
-    // Whether the network is authenticated, and the timer octet.
-    Congestion(u64, u64),
     GiveUp,
+}
+
+// An event that changes the children of a live line.
+pub enum TunnelEvent {
     // SPI and session.
     ChildMade(u64, u64),
     // SPI.
@@ -38,7 +38,7 @@ pub enum IkeEvent {
 
 // The step of an event.
 pub fn step_of(line: Record, time: u64, event: IkeEvent) -> Stepped
-    requires { ⌜ InArrays line × (lineSound (lineOf line) ≡ true) ⌝ }
+    requires { ⌜ InArrays line ⌝ }
     ensures { λ r. ⌜ effectIn r [] [] ≡ effect (eventOf event) time (lineOf line) ⌝ }
     ensures { λ r. ⌜ InArrays (r .line) ⌝ }
 {
@@ -47,10 +47,19 @@ pub fn step_of(line: Record, time: u64, event: IkeEvent) -> Stepped
         IkeEvent::InitAnswer => init_answer(line, time),
         IkeEvent::FinalAnswer(good) => final_answer(line, time, good),
         IkeEvent::Error(code) => error(line, time, code),
-        IkeEvent::Congestion(authenticated, timer) => congestion(line, time, authenticated, timer),
         IkeEvent::GiveUp => give_up(line, time),
-        IkeEvent::ChildMade(spi, session) => child_made(line, time, spi, session),
-        IkeEvent::ChildDeleted(spi) => child_deleted(line, time, spi),
-        IkeEvent::IkeDelete => ike_delete(line, time),
+    }
+}
+
+// The step of an event of a tunnel.
+pub fn tunnel_step_of(line: Record, time: u64, event: TunnelEvent) -> Stepped
+    requires { ⌜ InArrays line ⌝ }
+    ensures { λ r. ⌜ effectIn r [] [] ≡ effect (tunnelEventOf event) time (lineOf line) ⌝ }
+    ensures { λ r. ⌜ InArrays (r .line) ⌝ }
+{
+    match event {
+        TunnelEvent::ChildMade(spi, session) => child_made(line, time, spi, session),
+        TunnelEvent::ChildDeleted(spi) => child_deleted(line, time, spi),
+        TunnelEvent::IkeDelete => ike_delete(line, time),
     }
 }

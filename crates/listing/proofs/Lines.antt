@@ -2,6 +2,7 @@
 use Prim.Native.Nat.{ℕ, _≤_, _<_}
 use mathlib.Core.List.{List, []}
 use mathlib.Core.Path.{_≡_, sym, ap, _∙_}
+use Rattle.record.specs.Changes.{unheld}
 use Rattle.record.specs.Line.{Line}
 use Rattle.record.specs.Octets.{lineFrom}
 use Rattle.table.specs.Slots.{slotsOf}
@@ -18,6 +19,7 @@ module _ (l : List ℕ) (tenant line : ℕ) {pair i : ℕ} (numbered : pair ≡ 
   unfolding openText
   none-open h = ap (openText line) (none-there l tenant line numbered found h)
 
-  pub is-open : i < 32 → (x : Line) → x ≡ lineFrom (slot l i) → openText line (ownLine tenant (slotsOf l) line) ≡ lineText line x
-  unfolding openText
+  -- the text shows the phase and the children alone
+  pub is-open : i < 32 → (x : Line) → x ≡ unheld (lineFrom (slot l i) .phase) (lineFrom (slot l i) .children) → openText line (ownLine tenant (slotsOf l) line) ≡ lineText line x
+  unfolding openText lineText unheld
   is-open within x e = ap (openText line) (line-there l tenant line numbered found within) ∙ ap (lineText line) (sym e)

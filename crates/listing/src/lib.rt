@@ -15,8 +15,8 @@ use record::LINES;
 use record::Record;
 use rules::pair_of;
 use table::RECORDS;
-use table::read_slot;
 use table::record_of;
+use table::unheld_at;
 ghost use mathlib.Core.Bool.{true};
 ghost use mathlib.Core.Path.{_≡_};
 ghost use Prim.Native.Nat.{_≤_};
@@ -102,7 +102,7 @@ fn put_open(table: &[u8], tenant: u64, line: u64, buffer: &mut [u8], at: usize) 
     if RECORDS <= i {
         return at;
     }
-    put_line(buffer, at, line, read_slot(table, i))
+    put_line(buffer, at, line, unheld_at(table, i))
 }
 
 // Writes the listing of a tenant, with zeros after it, and returns its length.

@@ -8,6 +8,7 @@ pub mod Firsts
 pub mod Octets
 pub mod Ors
 pub mod Parts
+pub mod Patches
 pub mod Refusals
 pub mod Rows
 pub mod Search

@@ -136,6 +136,16 @@ module _ {A : Type 0} (f : ℕ → A) where
     unfolding first
     first-none h = rw (row-done i n h)
 
+  -- each of those that are left passes
+  module _ (p : A → Bool) (n i : ℕ) where
+    pub rest-more : i < n → (t : Bool) → p (f i) ≡ t → allOf p (row f i (n - i)) ≡ t && allOf p (row f (i + 1) (n - (i + 1)))
+    unfolding allOf
+    rest-more h t e = rw (row-more i n h, e)
+
+    pub rest-none : n ≤ i → allOf p (row f i (n - i)) ≡ true
+    unfolding allOf
+    rest-none h = rw (row-done i n h)
+
   -- one value more at the end of a row
   pub row-last : (k n : ℕ) → row f k (suc n) ≡ row f k n ++ f (k + n) ∷ []
   unfolding row

@@ -1,6 +1,7 @@
 -- The laws that the proofs of this crate share.
 pub mod Counts
 pub mod Held
+pub mod Keeping
 pub mod Lines
 pub mod Sounds
 pub mod Writing

@@ -1,17 +1,18 @@
--- A record from the writes of its parts over zeros.
-use Prim.Native.Nat.{ℕ, _+_, _-_, _*_, _≤_}
-use mathlib.Core.List.{List, _++_, append-assoc}
-use mathlib.Core.Path.{_≡_, refl, sym, ap, _∙_, subst}
-use native.Mathlib.Nat.{zero-add}
+-- The octets of a record, part by part, and what becomes of them where one part is written anew.
+use Prim.Native.Nat.{ℕ, _*_, _≤_}
+use mathlib.Core.List.{List, _++_}
+use mathlib.Core.Path.{_≡_, refl, sym, ap, ap₂, _∙_, subst}
 use native.Mathlib.Omega.{arith}
-use lib.ListN.{length, length-append}
+use lib.ListN.{length}
+use lib.Seq.{sets}
 use Rattle.octets.specs.Digits.{be, digits}
-use Rattle.octets.specs.Part.{zeros, padded, Wrote}
+use Rattle.octets.specs.Part.{padded, zeros, Wrote}
 use Rattle.octets.specs.Row.{joined}
-use Rattle.octets.proofs.Parts.{both, then, wrote-gap, wrote-whole}
+use Rattle.octets.proofs.Parts.{both, length-zeros, sets-append, wrote-length}
+use Rattle.octets.proofs.Patches.{end-sets, front-sets, padded-end}
 use Rattle.octets.proofs.Rows.{length-joined}
 use Rattle.address.specs.declared.Hold.{Hold}
-use Rattle.children.specs.Children.{childOctets, childrenOctets}
+use Rattle.children.specs.Children.{childOctets, childrenOctets, childrenRoom}
 use Rattle.children.specs.declared.Child.{Child}
 use Rattle.children.proofs.RoundTrip as Children
 use Rattle.children.proofs.Widths.{child-wide}
@@ -21,19 +22,9 @@ use Rattle.holds.proofs.Widths.{hold-wide}
 use Rattle.phase.specs.Phase.{phaseOctets}
 use Rattle.phase.specs.declared.Phase.{Phase}
 use Rattle.phase.proofs.Writes.{phase-length}
+use Rattle.record.specs.Changes.{atTime, withHolds, withTunnels}
 use Rattle.record.specs.Line.{Line}
-use Rattle.record.specs.Octets.{recordOctets, recordLength, childrenPlace}
-
--- where the next write begins
-behind : {k : ℕ} (vs : List ℕ) → length vs ≡ k → k ≡ 0 + length vs
-behind vs e = sym (zero-add (length vs) ∙ e)
-
--- a write of a count, and one over zeros
-pub counted-by : {l m : List ℕ} {at x y : ℕ} → x ≡ y → Wrote l at (be 1 x) m → Wrote l at (be 1 y) m
-counted-by {l} {m} {at} e w = subst (λ (k : ℕ). Wrote l at (be 1 k) m) e w
-
-pub from-zeros : {l z m vs : List ℕ} → l ≡ z → Wrote l 0 vs m → Wrote z 0 vs m
-from-zeros {l} {z} {m} {vs} e w = subst (λ (k : List ℕ). Wrote k 0 vs m) e w
+use Rattle.record.specs.Octets.{childCountPlace, childrenPlace, holdCountPlace, holdsPlace, recordOctets, recordLength, timePlace}
 
 -- the parts of a record, one behind the other
 module _ (pair t : ℕ) (p : Phase) where
@@ -67,42 +58,94 @@ octet-count pair x few-holds few-children =
     let front = counted pair (x .time) (x .phase) (x .holds) (x .children) ++ holdsOctets (x .holds) in
     both front (childrenOctets (x .children)) childrenPlace 40 (held-length pair (x .time) (x .phase) (x .holds) (x .children) few-holds) (Children.octet-count (x .children) few-children)
 
-module _ (pair t : ℕ) (p : Phase) (hs : List Hold) (cs : List Child) (few-holds : length hs ≤ 8) (few-children : length cs ≤ 8) where
-  holds-within : length (joined holdOctets hs) ≤ holdsRoom
-  holds-within =
-      let size : length (joined holdOctets hs) ≡ 22 * length hs = length-joined holdOctets 22 hold-wide hs in
-      omega arith
+-- a write over other octets that are the same
+pub over : {l r m vs : List ℕ} {at : ℕ} → l ≡ r → Wrote l at vs m → Wrote r at vs m
+over {vs = vs} {at = at} is w = record { wrote = w .wrote ∙ ap (λ (k : List ℕ). sets k at vs) is }
 
-  children-within : length (joined childOctets cs) ≤ 40
-  children-within =
-      let size : length (joined childOctets cs) ≡ 5 * length cs = length-joined childOctets 5 child-wide cs in
-      omega arith
+-- a count that is written to a record
+pub counted-in : {l r m : List ℕ} {at x y : ℕ} → l ≡ r → x ≡ y → Wrote l at (be 1 x) m → Wrote r at (be 1 y) m
+counted-in {at = at} is same w = record { wrote = w .wrote ∙ ap₂ (λ (k : List ℕ) (n : ℕ). sets k at (be 1 n)) is same }
 
-  abbrev start : List ℕ
-  start = counted pair t p hs cs
+-- what has room still has it
+pub still-room : (k : ℕ) {l m vs : List ℕ} {at : ℕ} → Wrote l at vs m → k ≤ length l → k ≤ length m
+still-room k w h = subst (λ (n : ℕ). k ≤ n) (sym (wrote-length w)) h
 
-  start-length : length start ≡ 27
-  start-length = counted-length pair t p hs cs
+-- a record that is changed where it lies
+module _ (pair : ℕ) (x : Line) where
+  abbrev h : List ℕ
+  h = head pair (x .time) (x .phase)
 
-  module _ {l₁ l₂ l₃ l₄ l₅ : List ℕ} (w₁ : Wrote (zeros recordLength) 0 (head pair t p) l₁) (w₂ : Wrote l₁ 25 (be 1 (length hs)) l₂) (w₃ : Wrote l₂ 26 (be 1 (length cs)) l₃)
-      (w₄ : Wrote l₃ 27 (joined holdOctets hs) l₄) (w₅ : Wrote l₄ childrenPlace (joined childOctets cs) l₅) where
-    up-to-counts : Wrote (zeros recordLength) 0 start l₃
-    up-to-counts =
-        then (then w₁ w₂ (behind (head pair t p) (head-length pair t p))) w₃ (behind (head pair t p ++ be 1 (length hs)) (first-count pair t p hs))
+  -- another time and another phase
+  pub head-changed : (t : ℕ) (p : Phase) → length (x .holds) ≤ 8 → sets (recordOctets pair x) timePlace (be 4 t ++ phaseOctets p) ≡ recordOctets pair (atTime t p x)
+  unfolding recordOctets atTime be digits
+  head-changed t p few =
+      let vs = be 4 t ++ phaseOctets p in
+      let size : length vs ≡ 24 = both (be 4 t) (phaseOctets p) 4 20 refl (phase-length p) in
+      let first = be 1 (length (x .holds)) in
+      let second = be 1 (length (x .children)) in
+      let first-end = first-count pair (x .time) (x .phase) (x .holds) in
+      let second-end = counted-length pair (x .time) (x .phase) (x .holds) (x .children) in
+      let third-end = held-length pair (x .time) (x .phase) (x .holds) (x .children) few in
+      front-sets (h ++ first ++ second ++ holdsOctets (x .holds)) (childrenOctets (x .children)) 1 vs (omega (arith, size, third-end))
+      ∙ ap (λ (l : List ℕ). l ++ childrenOctets (x .children))
+      (front-sets (h ++ first ++ second) (holdsOctets (x .holds)) 1 vs (omega (arith, size, second-end))
+      ∙ ap (λ (l : List ℕ). l ++ holdsOctets (x .holds))
+      (front-sets (h ++ first) second 1 vs (omega (arith, size, first-end))
+      ∙ ap (λ (l : List ℕ). l ++ second)
+      (front-sets h first 1 vs (omega (arith, size, head-length pair (x .time) (x .phase)))
+      ∙ ap (λ (l : List ℕ). l ++ first) (sets-append h 1 (be 4 t) (phaseOctets p)
+      ∙ ap (λ (l : List ℕ). sets l 5 (phaseOctets p)) (front-sets (be 1 pair ++ be 4 (x .time)) (phaseOctets (x .phase)) 1 (be 4 t) (omega arith)
+      ∙ ap (λ (l : List ℕ). l ++ phaseOctets (x .phase)) (end-sets (be 1 pair) (be 4 (x .time)) 1 (be 4 t) refl refl))
+      ∙ end-sets (be 1 pair ++ be 4 t) (phaseOctets (x .phase)) 5 (phaseOctets p) refl (phase-length (x .phase) ∙ sym (phase-length p))))))
 
-    up-to-holds : Wrote (zeros recordLength) 0 (start ++ holdsOctets hs) l₄
-    unfolding holdsOctets padded
-    up-to-holds =
-        let size : length (start ++ joined holdOctets hs) ≡ 27 + length (joined holdOctets hs) = length-append start (joined holdOctets hs) ∙ ap (λ (k : ℕ). k + length (joined holdOctets hs)) start-length in
-        subst (λ (vs : List ℕ). Wrote (zeros recordLength) 0 vs l₄) (append-assoc start (joined holdOctets hs) (zeros (holdsRoom - length (joined holdOctets hs))))
-        (wrote-gap recordLength (holdsRoom - length (joined holdOctets hs)) (start ++ joined holdOctets hs) l₄ (omega (arith, size, holds-within)) (then up-to-counts w₄ (behind start start-length)))
+  -- other holds, with their count
+  pub holds-changed : (hs : List Hold) → length (x .holds) ≤ 8 → length hs ≤ 8 → {l₁ l₂ l₃ : List ℕ} → Wrote (recordOctets pair x) holdCountPlace (be 1 (length hs)) l₁
+      → Wrote l₁ holdsPlace (zeros holdsRoom) l₂ → Wrote l₂ holdsPlace (joined holdOctets hs) l₃ → l₃ ≡ recordOctets pair (withHolds hs x)
+  unfolding recordOctets withHolds be digits holdsOctets
+  holds-changed hs few-before few {l₁} {l₂} {l₃} w₁ w₂ w₃ =
+      let js = joined holdOctets hs in
+      let size : length js ≡ 22 * length hs = length-joined holdOctets 22 hold-wide hs in
+      let first = be 1 (length (x .holds)) in
+      let second = be 1 (length (x .children)) in
+      let tail = childrenOctets (x .children) in
+      let start = h ++ be 1 (length hs) ++ second in
+      let start-end : length start ≡ 27 = both (h ++ be 1 (length hs)) second 26 1 (both h (be 1 (length hs)) 25 1 (head-length pair (x .time) (x .phase)) refl) refl in
+      let cleared : length (start ++ zeros holdsRoom) ≡ childrenPlace = both start (zeros holdsRoom) 27 holdsRoom start-end (length-zeros holdsRoom) in
+      let held = padded holdsRoom (joined holdOctets (x .holds)) in
+      let held-end : length (start ++ held) ≡ childrenPlace = both start held 27 holdsRoom start-end (Holds.octet-count (x .holds) few-before) in
+      let at₁ : l₁ ≡ start ++ held ++ tail =
+      w₁ .wrote ∙ front-sets (h ++ first ++ second ++ held) tail 25 (be 1 (length hs)) (omega (arith, held-length pair (x .time) (x .phase) (x .holds) (x .children) few-before))
+      ∙ ap (λ (l : List ℕ). l ++ tail) (front-sets (h ++ first ++ second) held 25 (be 1 (length hs)) (omega (arith, counted-length pair (x .time) (x .phase) (x .holds) (x .children)))
+      ∙ ap (λ (l : List ℕ). l ++ held) (front-sets (h ++ first) second 25 (be 1 (length hs)) (omega (arith, first-count pair (x .time) (x .phase) (x .holds)))
+      ∙ ap (λ (l : List ℕ). l ++ second) (end-sets h first 25 (be 1 (length hs)) (head-length pair (x .time) (x .phase)) refl))) in
+      let at₂ : l₂ ≡ start ++ zeros holdsRoom ++ tail =
+      w₂ .wrote ∙ ap (λ (l : List ℕ). sets l 27 (zeros holdsRoom)) at₁
+      ∙ front-sets (start ++ held) tail 27 (zeros holdsRoom) (omega (arith, held-end, length-zeros holdsRoom))
+      ∙ ap (λ (l : List ℕ). l ++ tail) (end-sets start held 27 (zeros holdsRoom) start-end (Holds.octet-count (x .holds) few-before ∙ sym (length-zeros holdsRoom))) in
+      w₃ .wrote ∙ ap (λ (l : List ℕ). sets l 27 js) at₂ ∙ front-sets (start ++ zeros holdsRoom) tail 27 js (omega (arith, cleared, size))
+      ∙ ap (λ (l : List ℕ). l ++ tail) (padded-end start holdsRoom 27 js start-end (omega (arith, size)))
 
-    pub record-written : l₅ ≡ recordOctets pair (record { time = t; phase = p; holds = hs; children = cs })
-    unfolding recordOctets childrenOctets padded
-    record-written =
-        let n = length (joined childOctets cs) in
-        let size : length (start ++ holdsOctets hs ++ joined childOctets cs) ≡ childrenPlace + length (joined childOctets cs) =
-        length-append (start ++ holdsOctets hs) (joined childOctets cs) ∙ ap (λ (k : ℕ). k + length (joined childOctets cs)) (held-length pair t p hs cs few-holds) in
-        wrote-whole recordLength (start ++ holdsOctets hs ++ padded 40 (joined childOctets cs)) l₅ (octet-count pair (record { time = t; phase = p; holds = hs; children = cs }) few-holds few-children)
-        (subst (λ (vs : List ℕ). Wrote (zeros recordLength) 0 vs l₅) (append-assoc (start ++ holdsOctets hs) (joined childOctets cs) (zeros (40 - n)))
-        (wrote-gap recordLength (40 - n) (start ++ holdsOctets hs ++ joined childOctets cs) l₅ (omega (arith, size, children-within)) (then up-to-holds w₅ (behind (start ++ holdsOctets hs) (held-length pair t p hs cs few-holds)))))
+  -- other children, with their count
+  pub children-changed : (cs : List Child) → length (x .holds) ≤ 8 → length (x .children) ≤ 8 → length cs ≤ 8 → {l₁ l₂ l₃ : List ℕ}
+      → Wrote (recordOctets pair x) childCountPlace (be 1 (length cs)) l₁ → Wrote l₁ childrenPlace (zeros childrenRoom) l₂ → Wrote l₂ childrenPlace (joined childOctets cs) l₃
+      → l₃ ≡ recordOctets pair (withTunnels cs x)
+  unfolding recordOctets withTunnels be digits childrenOctets
+  children-changed cs few-holds few-before few {l₁} {l₂} {l₃} w₁ w₂ w₃ =
+      let js = joined childOctets cs in
+      let size : length js ≡ 5 * length cs = length-joined childOctets 5 child-wide cs in
+      let second = be 1 (length (x .children)) in
+      let held = holdsOctets (x .holds) in
+      let tail = padded childrenRoom (joined childOctets (x .children)) in
+      let first = h ++ be 1 (length (x .holds)) in
+      let first-end = first-count pair (x .time) (x .phase) (x .holds) in
+      let start = first ++ be 1 (length cs) ++ held in
+      let start-end : length start ≡ childrenPlace =
+      both (first ++ be 1 (length cs)) held 27 holdsRoom (both first (be 1 (length cs)) 26 1 first-end refl) (Holds.octet-count (x .holds) few-holds) in
+      let at₁ : l₁ ≡ start ++ tail =
+      w₁ .wrote ∙ front-sets (first ++ second ++ held) tail 26 (be 1 (length cs)) (omega (arith, held-length pair (x .time) (x .phase) (x .holds) (x .children) few-holds))
+      ∙ ap (λ (l : List ℕ). l ++ tail) (front-sets (first ++ second) held 26 (be 1 (length cs)) (omega (arith, counted-length pair (x .time) (x .phase) (x .holds) (x .children)))
+      ∙ ap (λ (l : List ℕ). l ++ held) (end-sets first second 26 (be 1 (length cs)) first-end refl)) in
+      let at₂ : l₂ ≡ start ++ zeros childrenRoom =
+      w₂ .wrote ∙ ap (λ (l : List ℕ). sets l childrenPlace (zeros childrenRoom)) at₁
+      ∙ end-sets start tail childrenPlace (zeros childrenRoom) start-end (Children.octet-count (x .children) few-before ∙ sym (length-zeros childrenRoom)) in
+      w₃ .wrote ∙ ap (λ (l : List ℕ). sets l childrenPlace js) at₂ ∙ padded-end start childrenRoom childrenPlace js start-end (omega (arith, size))

@@ -3,4 +3,5 @@ pub mod Line
 pub mod Octets
 pub mod Sound
 pub mod Branch
+pub mod Changes
 pub mod Laws

@@ -1,6 +1,8 @@
 // The record of a line.
 pub mod sound;
 
+use address::Address;
+use address::End;
 use address::HOLDS;
 use address::Hold;
 use children::CHILDREN;
@@ -9,6 +11,8 @@ use children::Child;
 use children::put_children;
 use children::read_children;
 use holds::HOLDS_ROOM;
+use holds::all_in_force;
+use holds::in_force;
 use holds::put_holds;
 use holds::read_holds;
 use octets::number::get;
@@ -17,8 +21,9 @@ use octets::slice::zero;
 use phase::Phase;
 use phase::codec::put_phase;
 use phase::codec::read_phase;
+ghost use mathlib.Core.Bool.{true};
 ghost use mathlib.Core.Path.{_≡_};
-ghost use mathlib.Core.List.{_++_};
+ghost use mathlib.Core.List.{[], _++_};
 ghost use Prim.Native.Nat.{_≤_};
 ghost use lib.ListN.{length, take};
 ghost use Rattle.octets.specs.Digits.{be, field};
@@ -26,9 +31,12 @@ ghost use Rattle.octets.specs.Part.{Wrote};
 ghost use Rattle.address.specs.Address.{mostHolds};
 ghost use Rattle.children.specs.Children.{mostChildren};
 ghost use Rattle.phase.specs.Phase.{phaseOctets};
+ghost use Rattle.phase.specs.declared.Phase.the-variants.{Idle};
+ghost use Rattle.record.specs.Changes.{Changes, kept, unheld, withHolds, withTunnels};
 ghost use Rattle.record.specs.Laws.{Laws};
 ghost use Rattle.record.specs.Line.{lineOf, InArrays};
-ghost use Rattle.record.specs.Octets.{childCountPlace, holdCountPlace, lineFrom, recordLength, recordOctets};
+ghost use Rattle.record.specs.Octets.{childCountPlace, holdCountPlace, lineFrom, recordLength, recordOctets, timePlace};
+ghost use Rattle.record.specs.Sound.{isRecord};
 
 // Where the parts of a record stand: the pair first, then the time, the phase, both counts, the holds and the children.
 pub const TIME_AT: usize = 1;
@@ -84,56 +92,117 @@ pub fn read_record(b: &[u8]) -> Record
     }
 }
 
-// Stores the numbers of a record that stand before its holds.
-fn put_head(b: &mut [u8], pair: u64, time: u64, phase: Phase)
-    requires { ⌜ holdCountPlace ≤ length (now b) ⌝ }
-    ensures { λ _. ⌜ Wrote (now (b .entry)) 0 (be 1 pair ++ be 4 time ++ phaseOctets phase) (now (b .exit)) ⌝ }
+// A line of which the phase and the first n of a list as its children are known alone.
+fn unheld(phase: Phase, children: [Child; CHILDREN], n: usize) -> Record
+    requires { ⌜ n ≤ mostChildren ⌝ }
+    ensures { λ r. ⌜ lineOf r ≡ unheld phase (take n children) ⌝ }
+    ensures { λ r. ⌜ InArrays r ⌝ }
 {
+    let hold = Hold {
+        address: Address::V4(0),
+        end: End::Never,
+    };
+    Record {
+        time: 0,
+        phase,
+        holds: [hold; HOLDS],
+        hold_count: 0,
+        children,
+        child_count: n,
+    }
+}
+
+// The line in a record's octets, of which the phase is known alone.
+pub fn read_unlisted(b: &[u8]) -> Record
+    requires { ⌜ recordLength ≤ length (now b) ⌝ }
+    ensures { λ r. ⌜ lineOf r ≡ unheld (lineFrom (now (b .entry)) .phase) [] ⌝ }
+    ensures { λ r. ⌜ InArrays r ⌝ }
+{
+    let none = [Child { spi: 0, session: 0 }; CHILDREN];
+    unheld(read_phase(b, PHASE_AT), none, 0)
+}
+
+// The line in a record's octets, of which the phase and the children are known alone.
+pub fn read_unheld(b: &[u8]) -> Record
+    requires { ⌜ (recordLength ≤ length (now b)) × (field (now b) childCountPlace 1 ≤ mostChildren) ⌝ }
+    ensures { λ r. ⌜ lineOf r ≡ unheld (lineFrom (now (b .entry)) .phase) (lineFrom (now (b .entry)) .children) ⌝ }
+    ensures { λ r. ⌜ InArrays r ⌝ }
+{
+    let n = get(b, CHILD_COUNT_AT, 1) as usize;
+    let children = read_children(b, CHILDREN_AT, n);
+    unheld(read_phase(b, PHASE_AT), children, n)
+}
+
+// Stores the record of a pair that was just opened.
+pub fn put_fresh(b: &mut [u8], pair: u64)
+    requires { ⌜ length (now b) ≡ recordLength ⌝ }
+    ensures { λ _. ⌜ now (b .exit) ≡ recordOctets pair (unheld Idle []) ⌝ }
+{
+    zero(b);
     put(b, 0, 1, pair);
+}
+
+// Stores the time and the phase of a line in its record.
+fn put_head(b: &mut [u8], time: u64, phase: Phase)
+    requires { ⌜ holdCountPlace ≤ length (now b) ⌝ }
+    ensures { λ _. ⌜ Wrote (now (b .entry)) timePlace (be 4 time ++ phaseOctets phase) (now (b .exit)) ⌝ }
+{
     put(b, TIME_AT, 4, time);
     put_phase(b, PHASE_AT, phase);
 }
 
-// Stores the parts of a record, with the first m holds and the first n children.
-fn put_parts(
-    b: &mut [u8],
-    pair: u64,
-    time: u64,
-    phase: Phase,
-    holds: [Hold; HOLDS],
-    m: usize,
-    children: [Child; CHILDREN],
-    n: usize,
-)
-    requires { ⌜ (length (now b) ≡ recordLength) × (m ≤ mostHolds) × (n ≤ mostChildren) ⌝ }
-    ensures { λ _. ⌜ now (b .exit) ≡ recordOctets pair (record { time = time; phase = phase; holds = take m holds; children = take n children }) ⌝ }
+// Stores the first n of a list as the holds in a record.
+fn put_held(b: &mut [u8], list: [Hold; HOLDS], n: usize)
+    requires { ⌜ (length (now b) ≡ recordLength) × (n ≤ mostHolds) ⌝ }
+    ensures { λ _. ⌜ Changes (now (b .entry)) (now (b .exit)) (withHolds (take n list)) ⌝ }
 {
-    zero(b);
-    put_head(b, pair, time, phase);
-    put(b, HOLD_COUNT_AT, 1, m as u64);
-    put(b, CHILD_COUNT_AT, 1, n as u64);
-    put_holds(b, HOLDS_AT, holds, m);
-    put_children(b, CHILDREN_AT, children, n);
+    put(b, HOLD_COUNT_AT, 1, n as u64);
+    zero(&mut b[HOLDS_AT..CHILDREN_AT]);
+    put_holds(b, HOLDS_AT, list, n);
 }
 
-// Stores a record with its pair's number from 1 on.
-pub fn put_record(b: &mut [u8], pair: u64, r: Record)
-    requires { ⌜ (length (now b) ≡ recordLength) × InArrays r ⌝ }
-    ensures { λ _. ⌜ now (b .exit) ≡ recordOctets pair (lineOf r) ⌝ }
+// Stores the first n of a list as the children in a record.
+fn put_tunnels(b: &mut [u8], list: [Child; CHILDREN], n: usize)
+    requires { ⌜ (length (now b) ≡ recordLength) × (n ≤ mostChildren) ⌝ }
+    ensures { λ _. ⌜ Changes (now (b .entry)) (now (b .exit)) (withTunnels (take n list)) ⌝ }
 {
-    let phase = r.phase;
-    let holds = r.holds;
-    let children = r.children;
-    put_parts(
-        b,
-        pair,
-        r.time,
-        phase,
-        holds,
-        r.hold_count,
-        children,
-        r.child_count,
-    );
+    put(b, CHILD_COUNT_AT, 1, n as u64);
+    zero(&mut b[CHILDREN_AT..RECORD]);
+    put_children(b, CHILDREN_AT, list, n);
+}
+
+// Stores the time and the phase of the line in a sound record, and drops its holds that have ended.
+pub fn keep(b: &mut [u8], time: u64, phase: Phase)
+    requires { ⌜ (length (now b) ≡ recordLength) × (isRecord (now b) ≡ true) ⌝ }
+    ensures { λ _. ⌜ now (b .exit) ≡ recordOctets (field (now (b .entry)) 0 1) (kept time phase (lineFrom (now (b .entry)))) ⌝ }
+{
+    let n = get(b, HOLD_COUNT_AT, 1) as usize;
+    if all_in_force(b, HOLDS_AT, n, time) {
+        put_head(b, time, phase);
+        return;
+    }
+    let standing = in_force(read_holds(b, HOLDS_AT, n), n, time);
+    let list = standing.list;
+    put_head(b, time, phase);
+    put_held(b, list, standing.count);
+}
+
+// The same, with the first n of a list as its children.
+pub fn keep_tunnels(b: &mut [u8], time: u64, phase: Phase, list: [Child; CHILDREN], n: usize)
+    requires { ⌜ (length (now b) ≡ recordLength) × (isRecord (now b) ≡ true) × (n ≤ mostChildren) ⌝ }
+    ensures { λ _. ⌜ now (b .exit) ≡ recordOctets (field (now (b .entry)) 0 1) (withTunnels (take n list) (kept time phase (lineFrom (now (b .entry))))) ⌝ }
+{
+    keep(b, time, phase);
+    put_tunnels(b, list, n);
+}
+
+// The same, with the first n of a list as its holds.
+pub fn keep_held(b: &mut [u8], time: u64, phase: Phase, list: [Hold; HOLDS], n: usize)
+    requires { ⌜ (length (now b) ≡ recordLength) × (isRecord (now b) ≡ true) × (n ≤ mostHolds) ⌝ }
+    ensures { λ _. ⌜ now (b .exit) ≡ recordOctets (field (now (b .entry)) 0 1) (withHolds (take n list) (kept time phase (lineFrom (now (b .entry))))) ⌝ }
+{
+    keep(b, time, phase);
+    put_held(b, list, n);
 }
 
 // Does nothing; its promise is that writing and reading undo each other.

@@ -121,14 +121,7 @@ pub extern "C" fn scal_congestion(
 ) -> u64
     ensures { λ r. ⌜ returned r (now (answer .exit)) [] [] (now (table .exit)) ≡ run (timed tenant line time (congestion authenticated timer)) (now (table .entry)) ⌝ }
 {
-    on_line(
-        table,
-        tenant,
-        line,
-        time,
-        IkeEvent::Congestion(authenticated, timer),
-        answer,
-    )
+    calls::signalling::congested(table, tenant, line, time, authenticated, timer, answer)
 }
 
 // Gives an attempt up.

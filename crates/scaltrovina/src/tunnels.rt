@@ -1,6 +1,6 @@
 // The tunnels of a live line.
-use calls::signalling::on_line;
-use ike::event::IkeEvent;
+use calls::tunnels::on_tunnel;
+use ike::event::TunnelEvent;
 ghost use mathlib.Core.List.{[]};
 ghost use mathlib.Core.Path.{_≡_};
 ghost use Rattle.rules.specs.Call.{child-deleted, child-made, ike-delete, timed};
@@ -20,12 +20,12 @@ pub extern "C" fn scal_child_made(
 ) -> u64
     ensures { λ r. ⌜ returned r (now (answer .exit)) [] [] (now (table .exit)) ≡ run (timed tenant line time (child-made spi session)) (now (table .entry)) ⌝ }
 {
-    on_line(
+    on_tunnel(
         table,
         tenant,
         line,
         time,
-        IkeEvent::ChildMade(spi, session),
+        TunnelEvent::ChildMade(spi, session),
         answer,
     )
 }
@@ -42,12 +42,12 @@ pub extern "C" fn scal_child_deleted(
 ) -> u64
     ensures { λ r. ⌜ returned r (now (answer .exit)) [] [] (now (table .exit)) ≡ run (timed tenant line time (child-deleted spi)) (now (table .entry)) ⌝ }
 {
-    on_line(
+    on_tunnel(
         table,
         tenant,
         line,
         time,
-        IkeEvent::ChildDeleted(spi),
+        TunnelEvent::ChildDeleted(spi),
         answer,
     )
 }
@@ -63,5 +63,5 @@ pub extern "C" fn scal_ike_delete(
 ) -> u64
     ensures { λ r. ⌜ returned r (now (answer .exit)) [] [] (now (table .exit)) ≡ run (timed tenant line time ike-delete) (now (table .entry)) ⌝ }
 {
-    on_line(table, tenant, line, time, IkeEvent::IkeDelete, answer)
+    on_tunnel(table, tenant, line, time, TunnelEvent::IkeDelete, answer)
 }

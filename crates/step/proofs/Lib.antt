@@ -1,3 +1,4 @@
 -- The laws that the proofs of steps share.
 pub mod Running
 pub mod Steps
+pub mod Views

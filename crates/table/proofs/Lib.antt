@@ -6,6 +6,6 @@ pub mod Puts
 pub mod Room
 pub mod Seen
 pub mod Slots
-pub mod Splices
 pub mod Stored
 pub mod Views
+pub mod Within

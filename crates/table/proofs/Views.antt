@@ -47,12 +47,16 @@ module _ (l : List ℕ) (pair : ℕ) where
     unfolding slotsOf
     found-open = row-open (slotAt l) pair (recordOf l pair) found-has 32 found not-before
 
+    -- the octets of that record begin with the pair
+    pub slot-pair : field (slot l (recordOf l pair)) 0 1 ≡ pair
+    unfolding slotAt
+    slot-pair = sym (pair-from (slot l (recordOf l pair))) ∙ pair-in l (recordOf l pair) ∙ found-pair
+
     pub line-found : 1 ≤ pair → lineAt pair (slotsOf l) ≡ some (lineFrom (slot l (recordOf l pair)))
     unfolding slotsOf slotAt slotFrom slotLine
     line-found low =
         let s = slot l (recordOf l pair) in
-        let own : field s 0 1 ≡ pair = sym (pair-from s) ∙ pair-in l (recordOf l pair) ∙ found-pair in
-        row-line (slotAt l) pair (recordOf l pair) found-has 32 found not-before ∙ rw (ne-eqb (field s 0 1) 0 (λ e. omega arith))
+        row-line (slotAt l) pair (recordOf l pair) found-has 32 found not-before ∙ rw (ne-eqb (field s 0 1) 0 (λ e. omega (arith, slot-pair)))
 
     -- the slots with other octets in the record that is found
     pub slots-after : length l ≡ tableLength → (s : List ℕ) → length s ≡ recordLength
@@ -71,6 +75,12 @@ module _ (l : List ℕ) (pair : ℕ) where
   open-found =
       lower (recordOf l pair) 32 (λ found. found-open found ∙ sym (lt-ltb (recordOf l pair) 32 found))
       (λ none. not-open none ∙ sym (le-ltb (recordOf l pair) 32 none))
+
+-- the same of a record that is the one found
+pub pair-there : (l : List ℕ) {pair i : ℕ} → i ≡ recordOf l pair → i < 32 → field (slot l i) 0 1 ≡ pair
+pair-there l {pair} {i} found within =
+    let there : recordOf l pair < 32 = omega (arith, found) in
+    ap (λ (k : ℕ). field (slot l k) 0 1) found ∙ slot-pair l pair there
 
 pub zeros-pair : field (zeros recordLength) 0 1 ≡ 0
 unfolding field number numberFrom part zeros

@@ -1,7 +1,8 @@
 -- The table: records one behind the other, each free or of one pair.
-use Prim.Native.Nat.{ℕ, _*_}
-use mathlib.Core.Bool.{Bool, not, _&&_, _||_}
+use Prim.Native.Nat.{ℕ, _+_, _*_, _≤_}
+use mathlib.Core.Bool.{Bool, true, not, _&&_, _||_}
 use mathlib.Core.List.{List}
+use mathlib.Core.Path.{_≡_}
 use lib.Dec.{eqb}
 use lib.ListN.{length}
 use Rattle.octets.specs.Digits.{field}
@@ -24,6 +25,10 @@ freePair = 0
 -- the octets of the record with a number
 unfoldable pub slot : List ℕ → ℕ → List ℕ
 slot l i = part l (recordLength * i) recordLength
+
+-- the record with a number lies within the table and is sound
+abbrev pub UsedAt : List ℕ → ℕ → Type 0
+UsedAt l i = (recordLength * i + recordLength ≤ length l) × (isRecord (slot l i) ≡ true)
 
 -- a record is free or sound
 unfoldable pub slotSound : List ℕ → ℕ → Bool

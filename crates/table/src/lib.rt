@@ -1,26 +1,40 @@
 // The table of records.
+use address::HOLDS;
+use address::Hold;
+use children::CHILDREN;
+use children::Child;
 use octets::number::get;
 use octets::slice::part;
 use octets::slice::zero;
 use octets::slice::zeros_at;
+use phase::Phase;
 use record::PAIRS;
 use record::RECORD;
 use record::Record;
 use record::TIME_AT;
-use record::put_record;
+use record::keep;
+use record::keep_held;
+use record::keep_tunnels;
+use record::put_fresh;
 use record::read_record;
+use record::read_unheld;
+use record::read_unlisted;
 use record::sound::is_record;
-ghost use mathlib.Core.Bool.{true};
+ghost use mathlib.Core.List.{[]};
 ghost use mathlib.Core.Path.{_≡_};
 ghost use Prim.Native.Nat.{_+_, _*_, _≤_};
-ghost use lib.ListN.{length};
+ghost use lib.ListN.{length, take};
+ghost use Rattle.octets.specs.Digits.{field};
 ghost use Rattle.octets.specs.Part.{zeros, Wrote};
 ghost use Rattle.octets.specs.Search.{least};
+ghost use Rattle.address.specs.Address.{mostHolds};
+ghost use Rattle.children.specs.Children.{mostChildren};
+ghost use Rattle.phase.specs.declared.Phase.the-variants.{Idle};
+ghost use Rattle.record.specs.Changes.{kept, unheld, withHolds, withTunnels};
 ghost use Rattle.record.specs.Line.{lineOf, InArrays};
-ghost use Rattle.record.specs.Sound.{isRecord};
 ghost use Rattle.record.specs.Octets.{lineFrom, recordLength, recordOctets};
 ghost use Rattle.table.specs.Laws.{Laws};
-ghost use Rattle.table.specs.Table.{hasPair, isTable, pairAt, recordCount, recordOf, slot, slotSound, tableLength};
+ghost use Rattle.table.specs.Table.{hasPair, isTable, pairAt, recordCount, recordOf, slot, slotSound, tableLength, UsedAt};
 
 // How many records a table has, and how many octets.
 pub const RECORDS: usize = 32;
@@ -112,20 +126,79 @@ pub fn is_sound(table: &[u8]) -> bool
 
 // The line of a used record.
 pub fn read_slot(table: &[u8], i: usize) -> Record
-    requires { ⌜ (recordLength * i + recordLength ≤ length (now table)) × (isRecord (slot (now table) i) ≡ true) ⌝ }
+    requires { ⌜ UsedAt (now table) i ⌝ }
     ensures { λ r. ⌜ lineOf r ≡ lineFrom (slot (now (table .entry)) i) ⌝ }
     ensures { λ r. ⌜ InArrays r ⌝ }
 {
     read_record(part(table, RECORD * i, RECORD))
 }
 
-// Stores a record.
-pub fn store(table: &mut [u8], i: usize, pair: u64, r: Record)
-    requires { ⌜ (recordLength * i + recordLength ≤ length (now table)) × InArrays r ⌝ }
-    ensures { λ _. ⌜ Wrote (now (table .entry)) (recordLength * i) (recordOctets pair (lineOf r)) (now (table .exit)) ⌝ }
+// The line of a used record, of which the phase is known alone.
+pub fn unlisted_at(table: &[u8], i: usize) -> Record
+    requires { ⌜ UsedAt (now table) i ⌝ }
+    ensures { λ r. ⌜ lineOf r ≡ unheld (lineFrom (slot (now (table .entry)) i) .phase) [] ⌝ }
+    ensures { λ r. ⌜ InArrays r ⌝ }
+{
+    read_unlisted(part(table, RECORD * i, RECORD))
+}
+
+// The line of a used record, of which the phase and the children are known alone.
+pub fn unheld_at(table: &[u8], i: usize) -> Record
+    requires { ⌜ UsedAt (now table) i ⌝ }
+    ensures { λ r. ⌜ lineOf r ≡ unheld (lineFrom (slot (now (table .entry)) i) .phase) (lineFrom (slot (now (table .entry)) i) .children) ⌝ }
+    ensures { λ r. ⌜ InArrays r ⌝ }
+{
+    read_unheld(part(table, RECORD * i, RECORD))
+}
+
+// Stores the time and the phase of the line in a used record, and drops its holds that have ended.
+pub fn keep_at(table: &mut [u8], i: usize, time: u64, phase: Phase)
+    requires { ⌜ UsedAt (now table) i ⌝ }
+    ensures { λ _. ⌜ Wrote (now (table .entry)) (recordLength * i) (recordOctets (field (slot (now (table .entry)) i) 0 1) (kept time phase (lineFrom (slot (now (table .entry)) i)))) (now (table .exit)) ⌝ }
 {
     let at = RECORD * i;
-    put_record(&mut table[at..at + RECORD], pair, r);
+    keep(&mut table[at..at + RECORD], time, phase);
+}
+
+// The same, with the first n of a list as its children.
+pub fn keep_tunnels_at(
+    table: &mut [u8],
+    i: usize,
+    time: u64,
+    phase: Phase,
+    list: [Child; CHILDREN],
+    n: usize,
+)
+    requires { ⌜ UsedAt (now table) i × (n ≤ mostChildren) ⌝ }
+    ensures { λ _. ⌜ Wrote (now (table .entry)) (recordLength * i) (recordOctets (field (slot (now (table .entry)) i) 0 1) (withTunnels (take n list) (kept time phase (lineFrom (slot (now (table .entry)) i))))) (now (table .exit)) ⌝ }
+{
+    let at = RECORD * i;
+    keep_tunnels(&mut table[at..at + RECORD], time, phase, list, n);
+}
+
+// The same, with the first n of a list as its holds.
+pub fn keep_held_at(
+    table: &mut [u8],
+    i: usize,
+    time: u64,
+    phase: Phase,
+    list: [Hold; HOLDS],
+    n: usize,
+)
+    requires { ⌜ UsedAt (now table) i × (n ≤ mostHolds) ⌝ }
+    ensures { λ _. ⌜ Wrote (now (table .entry)) (recordLength * i) (recordOctets (field (slot (now (table .entry)) i) 0 1) (withHolds (take n list) (kept time phase (lineFrom (slot (now (table .entry)) i))))) (now (table .exit)) ⌝ }
+{
+    let at = RECORD * i;
+    keep_held(&mut table[at..at + RECORD], time, phase, list, n);
+}
+
+// Stores the record of a pair that was just opened.
+pub fn open_at(table: &mut [u8], i: usize, pair: u64)
+    requires { ⌜ recordLength * i + recordLength ≤ length (now table) ⌝ }
+    ensures { λ _. ⌜ Wrote (now (table .entry)) (recordLength * i) (recordOctets pair (unheld Idle [])) (now (table .exit)) ⌝ }
+{
+    let at = RECORD * i;
+    put_fresh(&mut table[at..at + RECORD], pair);
 }
 
 // Erases a record.

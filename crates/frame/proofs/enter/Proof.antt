@@ -5,6 +5,7 @@ use borrow.Author.Needs.{needs}
 use borrow.Author.Tests.{le-ltb, lt-ltb}
 use lib.Dec.{ltb}
 use Rattle.table.proofs.Puts.{table-length}
+use Rattle.table.proofs.Views.{pair-there}
 use Rattle.rules.proofs.Accepted.{line-range, tenant-range}
 use Rattle.rules.proofs.Found.{line-there, none-there, record-there}
 use Rattle.frame.proofs.Entries.{by-closed, by-first, by-none, by-time, in-range, is-sound}
@@ -67,7 +68,12 @@ returns-4 c =
     let at = found .record-of .ensures .0 in
     let open-is = own .before .if2 .left in
     by-none _ _ _ _ _ _ _ (first .before .checked .ensures) (first .if1 .left) (line-there _ _ _ pair at open-is) (ap (ltb _) (sym (own .time-at .ensures)) ∙ le-ltb _ _ (c .if3 .left)) refl
-    pair at (omega (arith, table-length (a .table .now) sound, open-is)) (record-there (a .table .now) (a .tenant) (a .line) pair at open-is sound)
+    pair
+    (record {
+      used = (omega (arith, table-length (a .table .now) sound, open-is), record-there (a .table .now) (a .tenant) (a .line) pair at open-is sound);
+      at-is = at;
+      pair-is = pair-there (a .table .now) at open-is;
+    })
 
 pub enter-spec : {M : Type 1} → statement M
 enter-spec =

@@ -1,4 +1,4 @@
--- `frame::settle` meets its contract: only an accepted step is stored.
+-- `frame::settle` meets its contract: the time and the phase of an accepted step alone are stored.
 use mathlib.Core.Path.{refl, sym}
 use borrow.Author.Needs.{needs}
 use Rattle.frame.proofs.Stores.{kept, stored}
@@ -11,17 +11,17 @@ numbers-requires c κs = search needs
 returns : tie.Need-returns
 returns c = (refl, (c .before .before .numbers .ensures, kept _ _ _ _ (c .if1 .taken)))
 
-store-requires : tie.Need-store-requires
-store-requires c κs = search needs
+keep-at-requires : tie.Need-keep-at-requires
+keep-at-requires c κs = c .before .before .before .before .before .pre .used
 
 same-length : tie.Need-same-length
 same-length c = search needs
 
 returns-2 : tie.Need-returns-2
 returns-2 c =
-    let start = c .before .before .before .before .before .before .before .before .before in
-    let accepted = c .before .before .before .before .if1 .left in
-    (sym accepted, (c .before .before .before .before .before .before .numbers .ensures, stored _ _ _ _ accepted _ (start .pre .0) _ (c .before .before .store .ensures)))
+    let tested = c .before .before .before .before in
+    let start = tested .before .before .before .before in
+    (sym (tested .if1 .left), (tested .before .before .numbers .ensures, stored (start .args .entered) _ (start .pre) _ _ (tested .if1 .left) (c .before .before .keep-at .ensures)))
 
 pub settle-spec : {M : Type 1} → statement M
-settle-spec = tie.close (tie.spec numbers-requires returns store-requires same-length returns-2)
+settle-spec = tie.close (tie.spec numbers-requires returns keep-at-requires same-length returns-2)

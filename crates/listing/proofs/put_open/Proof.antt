@@ -24,8 +24,8 @@ returns c =
     let a = number .before .before .before .args in
     put-as (sym (none-open (a .table .now) (a .tenant) (a .line) (number .pair-of .ensures) (found .record-of .ensures .0) (c .if1 .taken))) (put-none _ _)
 
-read-slot-requires : tie.Need-read-slot-requires
-read-slot-requires c κs =
+unheld-at-requires : tie.Need-unheld-at-requires
+unheld-at-requires c κs =
     let found = c .before .before in
     let number = found .before in
     let start = number .before .before .before in
@@ -39,7 +39,7 @@ put-line-requires c κs =
     let number = found .before in
     let start = number .before .before .before in
     let a = start .args in
-    (c .read-slot .ensures .1 .1, fits-as (is-open (a .table .now) (a .tenant) (a .line) (number .pair-of .ensures) (found .record-of .ensures .0) (c .before .before .if1 .left) _ (c .read-slot .ensures .0)) (start .pre .3))
+    (c .unheld-at .ensures .1 .1, fits-as (is-open (a .table .now) (a .tenant) (a .line) (number .pair-of .ensures) (found .record-of .ensures .0) (c .before .before .if1 .left) _ (c .unheld-at .ensures .0)) (start .pre .3))
 
 same-length : tie.Need-same-length
 same-length c = search needs
@@ -51,7 +51,7 @@ returns-2 c =
     let found = own .before .before .before in
     let number = found .before in
     let a = number .before .before .before .args in
-    put-as (sym (is-open (a .table .now) (a .tenant) (a .line) (number .pair-of .ensures) (found .record-of .ensures .0) (own .before .before .if1 .left) _ (own .read-slot .ensures .0))) (stored .put-line .ensures)
+    put-as (sym (is-open (a .table .now) (a .tenant) (a .line) (number .pair-of .ensures) (found .record-of .ensures .0) (own .before .before .if1 .left) _ (own .unheld-at .ensures .0))) (stored .put-line .ensures)
 
 pub put-open-spec : {M : Type 1} → statement M
 put-open-spec =
@@ -60,7 +60,7 @@ put-open-spec =
     pair-of-requires
     record-of-requires
     returns
-    read-slot-requires
+    unheld-at-requires
     put-line-requires
     same-length
     returns-2)

@@ -1,4 +1,4 @@
--- `record::put_head` meets its contract: three writes, each where the one before it ends.
+-- `record::put_head` meets its contract: two writes, the second where the first ends.
 use mathlib.Core.Path.{refl}
 use borrow.Author.Needs.{needs}
 use Rattle.octets.specs.Digits.{be, digits}
@@ -9,9 +9,6 @@ use Rattle.record.proofs.put_head.Tie as tie
 put-requires : tie.Need-put-requires
 put-requires c κs = search needs
 
-put-requires-2 : tie.Need-put-requires-2
-put-requires-2 c κs = search needs
-
 put-phase-requires : tie.Need-put-phase-requires
 put-phase-requires c κs = search needs
 
@@ -21,10 +18,8 @@ same-length c = search needs
 returns : tie.Need-returns
 unfolding be digits
 returns c =
-    let third = c .before .before in
-    let second = third .before .before .before .before in
-    then (then (second .before .before .before .before .put .ensures) (second .put2 .ensures) refl) (third .put-phase .ensures) refl
+    let second = c .before .before in
+    then (second .before .before .before .before .put .ensures) (second .put-phase .ensures) refl
 
 pub put-head-spec : {M : Type 1} → statement M
-put-head-spec =
-    tie.close (tie.spec put-requires put-requires-2 put-phase-requires same-length returns)
+put-head-spec = tie.close (tie.spec put-requires put-phase-requires same-length returns)

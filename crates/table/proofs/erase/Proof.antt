@@ -1,11 +1,9 @@
 -- `table::erase` meets its contract: the octets of one record are zeros afterwards.
 use Prim.Native.Nat.{_*_}
 use denote.Ref.{now}
-use Rattle.octets.specs.Part.{zeros}
 use borrow.Author.Needs.{needs}
-use Rattle.octets.proofs.Parts.{length-zeros}
 use Rattle.record.specs.Octets.{recordLength}
-use Rattle.table.proofs.Splices.{part-wrote, part-cleared}
+use Rattle.octets.proofs.Patches.{part-cleared}
 use Rattle.table.proofs.erase.Statement.{statement}
 use Rattle.table.proofs.erase.Tie as tie
 
@@ -34,7 +32,7 @@ returns : tie.Need-returns
 returns c =
     let a = c .before .before .before .before .before .args in
     let within = c .before .before .before .before .before .pre in
-    part-wrote (now (a .table)) (recordLength * a .i) recordLength _ (zeros recordLength) within (length-zeros recordLength) (part-cleared (now (a .table)) (recordLength * a .i) recordLength within _ (c .before .before .zero .ensures))
+    part-cleared (now (a .table)) (recordLength * a .i) recordLength within _ (c .before .before .zero .ensures)
 
 pub erase-spec : {M : Type 1} → statement M
 erase-spec =

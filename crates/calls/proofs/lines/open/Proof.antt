@@ -1,7 +1,9 @@
 -- `calls::lines::open` meets its contract: the tests stand in the order of their numbers.
 use native.Mathlib.Omega.{arith}
 use borrow.Author.Needs.{needs}
+use Rattle.record.specs.Changes.{unheld}
 use Rattle.table.proofs.Puts.{table-length}
+use Rattle.rules.specs.View.{fresh}
 use Rattle.rules.proofs.Accepted.{line-range, tenant-range}
 use Rattle.rules.proofs.Found.{line-there, none-there}
 use Rattle.frame.proofs.Entries.{in-range, is-sound}
@@ -53,27 +55,26 @@ returns-3 c =
     let none-open = none-there _ _ _ (found .before .before .pair-of .ensures) (found .record-of .ensures .0) (free .before .before .if2 .left) in
     all-taken _ _ _ _ (first .before .checked .ensures) (first .if1 .left) none-open _ (free .record-of2 .ensures .0) (c .if3 .taken)
 
-fresh-requires : tie.Need-fresh-requires
-fresh-requires c κs = search needs
-
-store-requires : tie.Need-store-requires
-store-requires c κs =
-    let free = c .before .before .before in
-    let first = free .before .before .before .before .before .before in
-    (omega (arith, table-length _ (is-sound _ _ _ _ _ (first .before .checked .ensures) (first .if1 .left)), c .before .before .if3 .left), c .fresh .ensures .1)
+open-at-requires : tie.Need-open-at-requires
+open-at-requires c κs =
+    let tested = c .before in
+    let first = tested .before .before .before .before .before .before .before in
+    omega (arith, table-length _ (is-sound _ _ _ _ _ (first .before .checked .ensures) (first .if1 .left)), tested .if3 .left)
 
 same-length-4 : tie.Need-same-length-4
 same-length-4 c = search needs
 
 returns-4 : tie.Need-returns-4
+unfolding fresh unheld
 returns-4 c =
     let stored = c .before .before in
-    let free = stored .before .before .before .before in
+    let tested = stored .before .before in
+    let free = tested .before in
     let found = free .before .before .before in
     let first = found .before .before .before in
     let numbered = found .before .before .pair-of .ensures in
     let none-open = none-there _ _ _ numbered (found .record-of .ensures .0) (free .before .before .if2 .left) in
-    opened _ _ _ _ (first .before .checked .ensures) (first .if1 .left) none-open _ (free .record-of2 .ensures .0) (stored .before .before .before .if3 .left) _ numbered _ (stored .before .fresh .ensures .0) _ (stored .store .ensures)
+    opened _ _ _ _ (first .before .checked .ensures) (first .if1 .left) none-open _ (free .record-of2 .ensures .0) (tested .if3 .left) _ numbered _ (stored .open-at .ensures)
 
 pub open-spec : {M : Type 1} → statement M
 open-spec =
@@ -89,7 +90,6 @@ open-spec =
     record-of-requires-2
     same-length-3
     returns-3
-    fresh-requires
-    store-requires
+    open-at-requires
     same-length-4
     returns-4)

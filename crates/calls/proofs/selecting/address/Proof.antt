@@ -5,7 +5,8 @@ use Rattle.octets.specs.Part.{zeros}
 use Rattle.rules.specs.Answer.{eventRoom, roomOf}
 use Rattle.rules.specs.Call.{address}
 use Rattle.rules.specs.Refusals.{isShort, leastEventRoom, leastRoom}
-use Rattle.calls.proofs.Timed.{taken, turned-away}
+use Rattle.step.proofs.Views.{kindOf, selected-alone}
+use Rattle.calls.proofs.Timed.{moved, turned-away}
 use Rattle.calls.proofs.selecting.address.Statement.{statement}
 use Rattle.calls.proofs.selecting.address.Tie as tie
 
@@ -20,31 +21,31 @@ unfolding isShort roomOf leastRoom leastEventRoom eventRoom zeros
 returns c = turned-away _ _ _ (address _) _ _ _ refl (c .before .before .before .enter .ensures) (c .before .if1 .taken) _ _ _ refl refl refl
 
 read-slot-requires : tie.Need-read-slot-requires
-read-slot-requires c κs =
-    let passes = c .before .before .before .enter .ensures .passes (c .before .if1 .left) in
-    (passes .within, passes .used)
+read-slot-requires c κs = c .before .before .before .enter .ensures .passes (c .before .if1 .left) .stands .used
 
 address-answer-requires : tie.Need-address-answer-requires
 address-answer-requires c κs = c .read-slot .ensures .1
 
+move-of-requires : tie.Need-move-of-requires
+move-of-requires c κs = search needs
+
 settle-requires : tie.Need-settle-requires
 settle-requires c κs =
-    let step = c .before .before in
-    let first = step .before .before .before in
-    let passes = first .before .before .enter .ensures .passes (first .if1 .left) in
-    (passes .at-is, passes .within, step .address-answer .ensures .1)
+    let tested = c .before .before .before .before .before .before in
+    tested .before .before .enter .ensures .passes (tested .if1 .left) .stands
 
 same-length-2 : tie.Need-same-length-2
 same-length-2 c = search needs
 
 returns-2 : tie.Need-returns-2
-unfolding isShort roomOf leastRoom leastEventRoom eventRoom zeros
+unfolding isShort roomOf leastRoom leastEventRoom eventRoom zeros kindOf
 returns-2 c =
     let settle = c .before .before .settle in
-    let step = c .before .before .before .before .before in
-    let first = step .before .before .before in
-    let passes = first .before .before .enter .ensures .passes (first .if1 .left) in
-    taken _ _ _ (address _) _ _ _ refl passes (step .before .read-slot .ensures .0) (step .address-answer .result) _ _ (step .address-answer .ensures .0) _ _ _ (settle .ensures .0) (settle .ensures .1 .0) (settle .ensures .1 .1)
+    let step = c .before .before .before .before .before .before in
+    let tested = step .before .before .before in
+    let passes = tested .before .before .enter .ensures .passes (tested .if1 .left) in
+    moved _ _ _ (address _) _ _ _ refl passes (selected-alone (address _) _ _ _ _ refl) (step .before .read-slot .ensures .0) (step .address-answer .result) _ _ (step .address-answer .ensures .0)
+    (c .before .before .before .before .move-of .ensures) _ _ _ (settle .ensures .0) (settle .ensures .1 .0) (settle .ensures .1 .1)
 
 pub address-spec : {M : Type 1} → statement M
 address-spec =
@@ -55,6 +56,7 @@ address-spec =
     returns
     read-slot-requires
     address-answer-requires
+    move-of-requires
     settle-requires
     same-length-2
     returns-2)

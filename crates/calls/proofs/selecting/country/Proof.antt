@@ -5,7 +5,8 @@ use borrow.Author.Tests.{ltb-false}
 use Rattle.rules.specs.Answer.{eventRoom, roomOf}
 use Rattle.rules.specs.Call.{country}
 use Rattle.rules.specs.Refusals.{isShort, leastEventRoom, leastRoom}
-use Rattle.calls.proofs.Timed.{taken-named, turned-away-named}
+use Rattle.step.proofs.Views.{kindOf, selected-alone}
+use Rattle.calls.proofs.Timed.{moved-named, turned-away-named}
 use Rattle.calls.proofs.selecting.country.Statement.{statement}
 use Rattle.calls.proofs.selecting.country.Tie as tie
 
@@ -29,21 +30,20 @@ returns c =
     turned-away-named _ _ _ (country _ _ _ _) _ _ _ refl _ _ _ (first .before .before .enter .ensures) (first .if1 .taken) _ _ _ (away .0) (away .1 .1) (away .1 .0)
 
 read-slot-requires : tie.Need-read-slot-requires
-read-slot-requires c κs =
-    let passes = c .before .before .before .enter .ensures .passes (c .before .if1 .left) in
-    (passes .within, passes .used)
+read-slot-requires c κs = c .before .before .before .enter .ensures .passes (c .before .if1 .left) .stands .used
 
 country-answer-requires : tie.Need-country-answer-requires
 country-answer-requires c κs =
     let first = c .before .before .before in
     (c .before .read-slot .ensures .1, ltb-false _ _ (first .before .before .enter .ensures .passes (first .if1 .left) .buffer-fits))
 
+move-of-requires : tie.Need-move-of-requires
+move-of-requires c κs = search needs
+
 settle-requires : tie.Need-settle-requires
 settle-requires c κs =
-    let step = c .before .before .before .before in
-    let first = step .before .before .before .before in
-    let passes = first .before .before .enter .ensures .passes (first .if1 .left) in
-    (passes .at-is, passes .within, step .country-answer .ensures .1 .1)
+    let tested = c .before .before .before .before .before .before .before .before .before in
+    tested .before .before .enter .ensures .passes (tested .if1 .left) .stands
 
 same-length-3 : tie.Need-same-length-3
 same-length-3 c = search needs
@@ -52,13 +52,14 @@ same-length-4 : tie.Need-same-length-4
 same-length-4 c = search needs
 
 returns-2 : tie.Need-returns-2
-unfolding isShort roomOf leastRoom leastEventRoom eventRoom
+unfolding isShort roomOf leastRoom leastEventRoom eventRoom kindOf
 returns-2 c =
     let settle = c .before .before .settle in
-    let step = c .before .before .before .before .before .before .before in
-    let first = step .before .before .before .before in
-    let passes = first .before .before .enter .ensures .passes (first .if1 .left) in
-    taken-named _ _ _ (country _ _ _ _) _ _ _ refl _ _ _ passes (step .before .before .read-slot .ensures .0) (step .country-answer .result) _ (step .country-answer .ensures .0) (step .country-answer .ensures .1 .0) _ _ _ (settle .ensures .0) (settle .ensures .1 .0) (settle .ensures .1 .1)
+    let step = c .before .before .before .before .before .before .before .before in
+    let tested = step .before .before .before .before in
+    let passes = tested .before .before .enter .ensures .passes (tested .if1 .left) in
+    moved-named _ _ _ (country _ _ _ _) _ _ _ refl _ _ _ passes (selected-alone (country _ _ _ _) _ _ _ _ refl) (step .before .before .read-slot .ensures .0) (step .country-answer .result) _ (step .country-answer .ensures .0) (step .country-answer .ensures .1 .0)
+    (c .before .before .before .before .move-of .ensures) _ _ _ (settle .ensures .0) (settle .ensures .1 .0) (settle .ensures .1 .1)
 
 pub country-spec : {M : Type 1} → statement M
 country-spec =
@@ -71,6 +72,7 @@ country-spec =
     returns
     read-slot-requires
     country-answer-requires
+    move-of-requires
     settle-requires
     same-length-3
     same-length-4

@@ -2,10 +2,14 @@
 use mathlib.Core.Path.{refl}
 use borrow.Author.Needs.{needs}
 use Rattle.octets.specs.Part.{zeros}
+use Rattle.record.specs.Changes.{unheld}
 use Rattle.rules.specs.Answer.{eventRoom, roomOf}
 use Rattle.rules.specs.Call.{eap}
+use Rattle.rules.specs.Life.{inPhase}
 use Rattle.rules.specs.Refusals.{isShort, leastEventRoom, leastRoom}
-use Rattle.calls.proofs.Timed.{taken-named, turned-away-named}
+use Rattle.rules.specs.View.{fresh}
+use Rattle.step.proofs.Views.{by-phase, kindOf}
+use Rattle.calls.proofs.Timed.{moved-named, turned-away-named}
 use Rattle.calls.proofs.signalling.eap.Statement.{statement}
 use Rattle.calls.proofs.signalling.eap.Tie as tie
 
@@ -19,32 +23,32 @@ returns : tie.Need-returns
 unfolding isShort roomOf leastRoom leastEventRoom eventRoom zeros
 returns c = turned-away-named _ _ _ (eap _) _ _ _ refl _ _ _ (c .before .before .before .enter .ensures) (c .before .if1 .taken) _ _ _ refl refl refl
 
-read-slot-requires : tie.Need-read-slot-requires
-read-slot-requires c κs =
-    let passes = c .before .before .before .enter .ensures .passes (c .before .if1 .left) in
-    (passes .within, passes .used)
+unlisted-at-requires : tie.Need-unlisted-at-requires
+unlisted-at-requires c κs = c .before .before .before .enter .ensures .passes (c .before .if1 .left) .stands .used
 
 eap-packet-requires : tie.Need-eap-packet-requires
-eap-packet-requires c κs = c .read-slot .ensures .1
+eap-packet-requires c κs = c .unlisted-at .ensures .1
+
+move-of-requires : tie.Need-move-of-requires
+move-of-requires c κs = search needs
 
 settle-requires : tie.Need-settle-requires
 settle-requires c κs =
-    let step = c .before .before in
-    let first = step .before .before .before in
-    let passes = first .before .before .enter .ensures .passes (first .if1 .left) in
-    (passes .at-is, passes .within, step .eap-packet .ensures .1 .1)
+    let tested = c .before .before .before .before .before .before in
+    tested .before .before .enter .ensures .passes (tested .if1 .left) .stands
 
 same-length-2 : tie.Need-same-length-2
 same-length-2 c = search needs
 
 returns-2 : tie.Need-returns-2
-unfolding isShort roomOf leastRoom leastEventRoom eventRoom zeros
+unfolding isShort roomOf leastRoom leastEventRoom eventRoom zeros kindOf fresh inPhase unheld
 returns-2 c =
     let settle = c .before .before .settle in
-    let step = c .before .before .before .before .before in
-    let first = step .before .before .before in
-    let passes = first .before .before .enter .ensures .passes (first .if1 .left) in
-    taken-named _ _ _ (eap _) _ _ _ refl _ _ _ passes (step .before .read-slot .ensures .0) (step .eap-packet .result) _ (step .eap-packet .ensures .0) (step .eap-packet .ensures .1 .0) _ _ _ (settle .ensures .0) (settle .ensures .1 .0) (settle .ensures .1 .1)
+    let step = c .before .before .before .before .before .before in
+    let tested = step .before .before .before in
+    let passes = tested .before .before .enter .ensures .passes (tested .if1 .left) in
+    moved-named _ _ _ (eap _) _ _ _ refl _ _ _ passes (by-phase (eap _) _ _ _ _ refl) (step .before .unlisted-at .ensures .0) (step .eap-packet .result) _ (step .eap-packet .ensures .0) (step .eap-packet .ensures .1 .0)
+    (c .before .before .before .before .move-of .ensures) _ _ _ (settle .ensures .0) (settle .ensures .1 .0) (settle .ensures .1 .1)
 
 pub eap-spec : {M : Type 1} → statement M
 eap-spec =
@@ -53,8 +57,9 @@ eap-spec =
     enter-requires
     same-length
     returns
-    read-slot-requires
+    unlisted-at-requires
     eap-packet-requires
+    move-of-requires
     settle-requires
     same-length-2
     returns-2)

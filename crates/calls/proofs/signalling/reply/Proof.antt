@@ -2,10 +2,14 @@
 use mathlib.Core.Path.{refl}
 use borrow.Author.Needs.{needs}
 use borrow.Author.Tests.{ltb-false}
+use Rattle.record.specs.Changes.{unheld}
 use Rattle.rules.specs.Answer.{eventRoom, roomOf}
 use Rattle.rules.specs.Call.{reply}
+use Rattle.rules.specs.Life.{inPhase}
 use Rattle.rules.specs.Refusals.{isShort, leastEventRoom, leastRoom}
-use Rattle.calls.proofs.Timed.{taken, turned-away}
+use Rattle.rules.specs.View.{fresh}
+use Rattle.step.proofs.Views.{by-phase, kindOf}
+use Rattle.calls.proofs.Timed.{moved, turned-away}
 use Rattle.calls.proofs.signalling.reply.Statement.{statement}
 use Rattle.calls.proofs.signalling.reply.Tie as tie
 
@@ -28,22 +32,21 @@ returns c =
     let first = c .before .before .before .before .before in
     turned-away _ _ _ (reply _ _ _) _ _ _ refl (first .before .before .enter .ensures) (first .if1 .taken) _ _ _ (away .0) (away .1 .1) (away .1 .0)
 
-read-slot-requires : tie.Need-read-slot-requires
-read-slot-requires c κs =
-    let passes = c .before .before .before .enter .ensures .passes (c .before .if1 .left) in
-    (passes .within, passes .used)
+unlisted-at-requires : tie.Need-unlisted-at-requires
+unlisted-at-requires c κs = c .before .before .before .enter .ensures .passes (c .before .if1 .left) .stands .used
 
 reply-requires : tie.Need-reply-requires
 reply-requires c κs =
     let first = c .before .before .before in
-    (c .before .read-slot .ensures .1, ltb-false _ _ (first .before .before .enter .ensures .passes (first .if1 .left) .buffer-fits))
+    (c .before .unlisted-at .ensures .1, ltb-false _ _ (first .before .before .enter .ensures .passes (first .if1 .left) .buffer-fits))
+
+move-of-requires : tie.Need-move-of-requires
+move-of-requires c κs = search needs
 
 settle-requires : tie.Need-settle-requires
 settle-requires c κs =
-    let step = c .before .before .before .before in
-    let first = step .before .before .before .before in
-    let passes = first .before .before .enter .ensures .passes (first .if1 .left) in
-    (passes .at-is, passes .within, step .reply2 .ensures .1)
+    let tested = c .before .before .before .before .before .before .before .before .before in
+    tested .before .before .enter .ensures .passes (tested .if1 .left) .stands
 
 same-length-3 : tie.Need-same-length-3
 same-length-3 c = search needs
@@ -52,13 +55,14 @@ same-length-4 : tie.Need-same-length-4
 same-length-4 c = search needs
 
 returns-2 : tie.Need-returns-2
-unfolding isShort roomOf leastRoom leastEventRoom eventRoom
+unfolding isShort roomOf leastRoom leastEventRoom eventRoom kindOf fresh inPhase unheld
 returns-2 c =
     let settle = c .before .before .settle in
-    let step = c .before .before .before .before .before .before .before in
-    let first = step .before .before .before .before in
-    let passes = first .before .before .enter .ensures .passes (first .if1 .left) in
-    taken _ _ _ (reply _ _ _) _ _ _ refl passes (step .before .before .read-slot .ensures .0) (step .reply2 .result) _ _ (step .reply2 .ensures .0) _ _ _ (settle .ensures .0) (settle .ensures .1 .0) (settle .ensures .1 .1)
+    let step = c .before .before .before .before .before .before .before .before in
+    let tested = step .before .before .before .before in
+    let passes = tested .before .before .enter .ensures .passes (tested .if1 .left) in
+    moved _ _ _ (reply _ _ _) _ _ _ refl passes (by-phase (reply _ _ _) _ _ _ _ refl) (step .before .before .unlisted-at .ensures .0) (step .reply2 .result) _ _ (step .reply2 .ensures .0)
+    (c .before .before .before .before .move-of .ensures) _ _ _ (settle .ensures .0) (settle .ensures .1 .0) (settle .ensures .1 .1)
 
 pub reply-spec : {M : Type 1} → statement M
 reply-spec =
@@ -69,8 +73,9 @@ reply-spec =
     same-length
     same-length-2
     returns
-    read-slot-requires
+    unlisted-at-requires
     reply-requires
+    move-of-requires
     settle-requires
     same-length-3
     same-length-4
