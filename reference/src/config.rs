@@ -77,7 +77,7 @@ pub(crate) struct Config {
 }
 
 impl Config {
-    /// Reads a text: each record ended by a newline, `home` first and once, no `node` after any other record, no `plmn` after a `bar`.
+    /// Reads a text: each record ended by a newline, `home` first and once, then at most one `node`, then `plmn`, then `bar` records.
     pub(crate) fn read(text: &[u8]) -> Option<Config> {
         let text = std::str::from_utf8(text).ok()?;
         let mut records = text.strip_suffix('\n')?.split('\n').map(|record| record.split('\t').collect::<Vec<_>>());

@@ -7,13 +7,14 @@
 //!
 //! What it does not have is a byte layout. The table is a map from a pair (tenant, line) to a [`Line`]; a line keeps its phase as an
 //! enum with the data of that phase, its holds and its children as vectors; texts are read by splitting and packets by slices. Octets
-//! occur only at the edge: what a caller lends, and what an answer hands back. Such a table cannot be unsound, so refusal 1 has no
-//! place here.
+//! occur only at the edge: what a caller lends, and what an answer hands back. The empty table is sound, each call keeps a table
+//! sound, and [`Table::of_lines`] is given the lines of a sound one, so refusal 1 has no place here.
 //!
 //! Refusals go by their number in document 01. The lowest that applies is given, so each call tests them in rising order and stops at
 //! the first. A timed call passes two such places, one after the other: `Table::timed` for 2, 3, 5, 7 and the 8 of the time, then its
 //! event for the other causes of 8 and for 9 to 13. An event works on a copy of its line, which takes the line's place only when the
-//! call is accepted; that is why a refused call changes nothing. The model never panics, whatever numbers and octets it is given.
+//! call is accepted; that is why a refused call changes nothing. The model never panics, whatever numbers and octets it is given, as
+//! long as memory has room for the answer buffer.
 //!
 //! The modules stand below in the order of document 01, each with a sentence at its head.
 

@@ -109,6 +109,9 @@ FAULTS = [
     ('the final answer has a thirteenth number', 'scal_final', 'if (!refusal) (&answer->action)[12] ^= 1;'),
     ('open changes the record of another pair', 'scal_open', 'if (!refusal && table[243]) table[4] |= 1;'),
     ('close takes some tables that are not sound', 'scal_close', 'if (refusal == 1 && table_length == 7776) refusal = 5;'),
+    ('an IKE delete takes tables of twice the length', 'scal_ike_delete', 'if (refusal == 1 && table_length == 2 * 7776) refusal = 10;'),
+    ('a give up changes unsound tables that end in 255', 'scal_give_up',
+     'if (refusal == 1 && table_length == 7776 && table[7775] == 255) table[0] ^= 1;'),
     ('open takes the last record while others are free', 'scal_open',
      'if (!refusal && table[20 * 243] && !table[31 * 243])\n'
      '        for (size_t at = 0; at < 31 * 243; at += 243)\n'

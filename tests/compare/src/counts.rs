@@ -118,6 +118,7 @@ impl Counts {
         let strange = self.answered.keys().filter(|answer| !ANSWERED.contains(answer));
         faults.extend(strange.map(|answer| format!("answered, which the header does not name (call, action, stop, part): {answer:?}")));
         faults.extend(self.unmet_stages());
+        faults.extend(self.unlent());
         faults.extend(marks::ALL.iter().filter(|mark| !self.marks.contains_key(*mark)).map(|mark| format!("never met: {mark}")));
         faults
     }
@@ -126,6 +127,13 @@ impl Counts {
         let events = RETURNED[3..17].iter().map(|(name, _)| *name);
         let cells = events.flat_map(|name| STAGES.map(|stage| (name, stage)));
         cells.filter(|cell| !self.staged.contains_key(cell)).map(|(name, stage)| format!("never scal_{name} in phase {stage}")).collect()
+    }
+
+    /// Calls on the table that did not get each unsound table once; no other table refuses by 1.
+    fn unlent(&self) -> Vec<String> {
+        let tables = self.marks.get(marks::UNSOUND);
+        let unlent = RETURNED[..17].iter().filter(|(name, _)| self.returned.get(&(*name, 1)) != tables);
+        unlent.map(|(name, _)| format!("scal_{name} did not get each unsound table once")).collect()
     }
 
     /// The counts as a table: a row for each call, a column for each number that a call returned.

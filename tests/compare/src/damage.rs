@@ -1,4 +1,4 @@
-//! Damaged tables: octets changed, parts copied, wrong lengths.
+//! Damaged tables: octets changed, parts copied, wrong lengths. One that is no longer sound gets every call (judge.rs).
 
 use crate::drive::Driver;
 use crate::history::{History, Run, Told};
@@ -8,7 +8,7 @@ use crate::phases::{children, holds, stages, SIX, TIME};
 use crate::random::Random;
 
 /// One line; full tables with one child a line, with as much as a line may have, and with lines in every phase.
-fn bases() -> Vec<Base> {
+fn bases() -> [Base; 4] {
     let stages = stages();
     let pair = |record: usize| (record as u64 * 7 % 64 / 4, record as u64 * 7 % 4);
     let live = |held, made| Line { time: TIME, phase: Phase::Live(SIX), holds: holds(held), children: children(made) };
@@ -17,7 +17,7 @@ fn bases() -> Vec<Base> {
         Base::of(&layout::table(&lines))
     };
     let one = Base::of(&layout::table(&[((3, 2), live(2, 2))]));
-    vec![one, full(&|_| live(0, 1)), full(&|_| live(7, 8)), full(&|record| stages[record * 7 % stages.len()].clone())]
+    [one, full(&|_| live(0, 1)), full(&|_| live(7, 8)), full(&|record| stages[record * 7 % stages.len()].clone())]
 }
 
 /// Each octet changed, and wrong lengths; how many tables they were of.
@@ -29,24 +29,38 @@ pub fn systematic(run: &mut Run) -> Result<u64, String> {
         lengths(base, random, run)?;
         octets(base, random, run)?;
     }
+    let [_, _, crowded, in_every_phase] = &bases;
+    record(crowded, random, run)?;
+    record(in_every_phase, random, run)?;
     Ok(bases.len() as u64)
 }
 
-/// A few other values for each octet; all values for those of one record and for some others.
+/// A few other values for each octet.
 fn octets(base: &Base, random: &mut Random, run: &mut Run) -> Told {
-    let record = random.index(base.lines.len());
     for place in 0..TABLE {
         let old = base.octets[place];
-        let few = vec![old.wrapping_add(1), old.wrapping_sub(1), random.draw() as u8];
-        let values: Vec<u8> = if place / RECORD == record || random.chance(1) { (0..=255).collect() } else { few };
-        for value in values {
-            let mut table = base.octets.clone();
-            table[place] = value;
-            let count = if random.chance(2) { usize::MAX } else { 1 };
-            judged(base, &table, count, random, run)?;
+        for value in [old.wrapping_add(1), old.wrapping_sub(1), random.draw() as u8] {
+            changed(base, place, value, random, run)?;
         }
     }
     Ok(())
+}
+
+/// Every value for each octet of one record.
+fn record(base: &Base, random: &mut Random, run: &mut Run) -> Told {
+    let start = RECORD * random.index(RECORDS);
+    for place in start..start + RECORD {
+        (0..=255).try_for_each(|value| changed(base, place, value, random, run))?;
+    }
+    Ok(())
+}
+
+/// One octet changed; a few of the tables that are still sound get many calls.
+fn changed(base: &Base, place: usize, value: u8, random: &mut Random, run: &mut Run) -> Told {
+    let mut table = base.octets.clone();
+    table[place] = value;
+    let count = if random.chance(2) { usize::MAX } else { 1 };
+    judged(base, &table, count, random, run)
 }
 
 /// Every length around the right one and around none, and lengths in steps up to twice the right one.

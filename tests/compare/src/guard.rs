@@ -7,6 +7,7 @@ const MARGIN: usize = 32;
 #[derive(Clone)]
 pub struct Guarded<T> {
     store: Vec<T>,
+    /// The store when it was lent last.
     before: Vec<T>,
     start: usize,
     length: usize,
@@ -21,7 +22,7 @@ impl<T: Copy + PartialEq + From<u8>> Guarded<T> {
         store.extend_from_slice(&garbage[..start]);
         store.extend_from_slice(lent);
         store.extend_from_slice(&garbage[start..]);
-        Guarded { before: store.clone(), store, start, length: lent.len() }
+        Guarded { store, before: Vec::new(), start, length: lent.len() }
     }
 
     pub fn lent(&self) -> &[T] {
@@ -30,7 +31,7 @@ impl<T: Copy + PartialEq + From<u8>> Guarded<T> {
 
     /// The pointer and the length that a call gets. The pointer is one into the whole store, so that a stray write is seen.
     pub fn lend(&mut self) -> (*mut T, usize) {
-        self.before.copy_from_slice(&self.store);
+        self.before.clone_from(&self.store);
         (self.store.as_mut_ptr().wrapping_add(self.start), self.length)
     }
 

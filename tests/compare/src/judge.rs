@@ -2,7 +2,7 @@
 
 use crate::both::{shown, Both};
 use crate::history::{seen, Run, Told};
-use crate::layout::{self, Line, Pair, RECORD, TABLE};
+use crate::layout::{self, Line, Pair, Phase, RECORD, TABLE};
 use crate::marks;
 use crate::model;
 use crate::phases::{onward, samples};
@@ -10,6 +10,7 @@ use crate::random::Random;
 use crate::shape::{shown_octets, Shaped};
 use crate::side::Library;
 use reference::{Call, Table};
+use std::collections::BTreeSet;
 
 /// A sound table with its lines.
 pub struct Base {
@@ -27,37 +28,50 @@ impl Base {
     }
 }
 
-/// Makes some calls, each on a copy of a table that was made of the base, and sees that they do what the table asks for.
+/// Makes calls, each on a copy of a table that was made of the base, and sees that they do what the table asks for: so many calls where it
+/// is sound, else one call of every name.
 pub fn judged(base: &Base, table: &[u8], count: usize, random: &mut Random, run: &mut Run) -> Told {
     let lines = layout::lines(table);
     let model = lines.as_deref().map(model::with);
-    for call in calls(base, lines.as_deref(), count, random) {
+    let mut calls = calls(base, lines.as_deref().unwrap_or_default(), random);
+    if model.is_some() {
+        calls.truncate(count);
+        run.counts.marked(marks::SOUND);
+    } else {
+        one_of_each(&mut calls);
+        run.counts.marked(marks::UNSOUND);
+    }
+    for call in calls {
         let seed = run.seed ^ run.counts.calls;
         let refusal = judge(table, model.as_ref(), &call, seed).map_err(|what| told(table.to_vec(), &call, seed, &what))?;
         run.counts.returned(call.name(), refusal);
-        run.counts.marked(if model.is_some() { marks::SOUND } else { marks::UNSOUND });
     }
     Ok(())
 }
 
-/// Calls on a line that the base does not have where there is one, else on any line of the base.
-fn calls(base: &Base, lines: Option<&[(Pair, Line)]>, count: usize, random: &mut Random) -> Vec<Call> {
-    let new = lines.unwrap_or_default().iter().find(|line| !base.lines.contains(line)).cloned();
-    let Some(((tenant, line), content)) = new.or_else(|| (!base.lines.is_empty()).then(|| random.pick(&base.lines))) else {
-        return vec![Call::Open { tenant: random.below(18), line: random.below(6) }];
-    };
+/// Calls of every name, on a line that the base does not have where there is one, else on any line of the base, else on any pair.
+fn calls(base: &Base, lines: &[(Pair, Line)], random: &mut Random) -> Vec<Call> {
+    let new = lines.iter().find(|line| !base.lines.contains(line)).cloned();
+    let (other, out) = (random.below(18), random.below(6));
+    let opened = Line { time: 0, phase: Phase::Idle, holds: vec![], children: vec![] };
+    let known = new.or_else(|| (!base.lines.is_empty()).then(|| random.pick(&base.lines)));
+    let ((tenant, line), content) = known.unwrap_or(((other, out), opened));
     let time = if random.chance(80) { content.time } else { random.draw() };
     let timed = |event| Call::Timed { tenant, line, time, event };
     let mut calls = vec![Call::Open { tenant, line }, Call::Close { tenant, line }, Call::List { tenant, room: 1024 }];
-    let (other, out) = (random.below(18), random.below(6));
     calls.extend([Call::Open { tenant: other, line: out }, Call::List { tenant: other, room: 1024 }]);
     calls.extend(samples(&content).into_iter().map(timed));
     random.shuffle(&mut calls);
     if random.chance(50) {
         calls.insert(0, timed(onward(&content)));
     }
-    calls.truncate(count);
     calls
+}
+
+/// Keeps the first call of each name.
+fn one_of_each(calls: &mut Vec<Call>) {
+    let mut kept = BTreeSet::new();
+    calls.retain(|call| kept.insert(call.name()));
 }
 
 /// The refusal of a call on a table, or what is wrong with it; a sound table has a model with its lines.

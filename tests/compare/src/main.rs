@@ -77,10 +77,10 @@ const WHOLE: [Whole; 5] = [
 type Repeated = (&'static str, &'static str, u64, fn(u64, &mut Run) -> Told);
 
 const REPEATED: [Repeated; 4] = [
-    ("histories", "histories", 50, histories::one),
+    ("histories", "histories", 45, histories::one),
     ("packets", "hundreds of calls without a table", 5, histories::packets),
-    ("pairs", "pairs of histories", 25, pairs::one),
-    ("damage", "tables damaged two hundred times", 20, damage::one),
+    ("pairs", "pairs of histories", 20, pairs::one),
+    ("damage", "tables damaged two hundred times", 30, damage::one),
 ];
 
 fn main() -> ExitCode {
@@ -106,7 +106,7 @@ fn main() -> ExitCode {
 }
 
 fn arguments() -> Option<Arguments> {
-    let mut arguments = Arguments { budget: Budget::Calls(300_000), seed: 1, part: None };
+    let mut arguments = Arguments { budget: Budget::Calls(400_000), seed: 1, part: None };
     let mut given = std::env::args().skip(1);
     while let Some(name) = given.next() {
         let value = given.next()?;

@@ -25,9 +25,9 @@ pub const ALL: [&str; 19] = [
     OWN,
 ];
 
-/// Tables that are damaged.
-pub const UNSOUND: &str = "calls on unsound tables";
-pub const SOUND: &str = "calls on changed tables that are sound";
+/// Damaged tables.
+pub const UNSOUND: &str = "unsound tables, each lent to every call";
+pub const SOUND: &str = "changed tables that are sound";
 
 /// Accepted calls of pairs of histories.
 pub const FIRST_ALONE: &str = "calls of others accepted in the first history alone";

@@ -51,7 +51,7 @@ impl Random {
     pub fn octets(&mut self, count: usize) -> Vec<u8> {
         let mut octets = Vec::with_capacity(count + 8);
         while octets.len() < count {
-            octets.extend(self.draw().to_le_bytes());
+            octets.extend_from_slice(&self.draw().to_le_bytes());
         }
         octets.truncate(count);
         octets
