@@ -6,11 +6,12 @@ use native.Mathlib.Omega.{arith}
 use lib.Dec.{ltb}
 use Rattle.octets.specs.Part.{padded, part, zeros}
 use Rattle.octets.specs.Refusal.{refusal}
+use Rattle.record.specs.Changes.{current}
 use Rattle.record.specs.Line.{lineOf, InArrays}
 use Rattle.record.specs.declared.Record.{Record}
 use Rattle.rules.specs.Answer.{eventRoom, lentIn, numbersOf, partNamed, PartWithin, twelve}
 use Rattle.rules.specs.Call.{Event, lastTime}
-use Rattle.rules.specs.Life.{Outcome, current, outcome}
+use Rattle.rules.specs.Life.{Outcome, outcome}
 use Rattle.rules.specs.Refusals.{refusalsOf}
 use Rattle.rules.specs.declared.Action.{Action}
 use Rattle.rules.specs.declared.Action.the-variants as Action

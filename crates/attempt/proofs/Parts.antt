@@ -14,9 +14,10 @@ use Rattle.phase.specs.declared.Phase.the-variants as Phase
 use Rattle.place.specs.declared.Facts.{Facts}
 use Rattle.query.specs.Query.{asked, built, Lies, TextWithin}
 use Rattle.query.proofs.Names.{lies, name-fits, name-part}
+use Rattle.record.specs.Changes.{inPhase}
 use Rattle.record.specs.Line.{Line}
 use Rattle.rules.specs.Answer.{lentIn, numbersOf, partNamed, PartWithin, twelve}
-use Rattle.rules.specs.Life.{Outcome, decided, gatewayFound, goes, inPhase, nameAsked}
+use Rattle.rules.specs.Life.{Outcome, decided, gatewayFound, goes, nameAsked}
 use Rattle.rules.specs.declared.Action.the-variants.{AskBuilt, AskCountry, AskText}
 use Rattle.selection.specs.declared.Choice.{Choice}
 use Rattle.selection.specs.declared.Choice.the-variants.{Stop, Country, Text, Network, Address}

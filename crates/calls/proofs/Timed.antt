@@ -5,13 +5,12 @@ use mathlib.Core.List.{List, []}
 use mathlib.Core.Path.{_≡_, refl, sym, ap, _∙_}
 use native.Mathlib.Omega.{arith}
 use Rattle.octets.specs.Part.{part, zeros}
-use Rattle.record.specs.Changes.{kept}
+use Rattle.record.specs.Changes.{current, inPhase}
 use Rattle.record.specs.Line.{Line, lineOf}
 use Rattle.record.specs.Octets.{lineFrom}
 use Rattle.table.specs.Table.{slot}
 use Rattle.rules.specs.Answer.{eventRoom, lentIn, numberCount, numbersOf, partNamed, PartWithin, refused, roomOf}
 use Rattle.rules.specs.Call.{Event, timed}
-use Rattle.rules.specs.Life.{current, inPhase}
 use Rattle.rules.specs.Refusals.{isShort, leastEventRoom, leastRoom}
 use Rattle.rules.specs.Run.{run}
 use Rattle.step.specs.Laws.{resultBy, storedBy}
@@ -83,12 +82,12 @@ module _ (tenant line time : ℕ) (e : Event) (short : Bool) (l : List ℕ) (r :
   -- the same where the phase alone is stored
   pub moved : Passes r tenant line time short l → {y z : Line} → From e time (r .pair) l own y (phased (current time own)) → z ≡ y → (s : Stepped) (part buffer : List ℕ)
       → effectIn s part buffer ≡ effect e time z → {m : Moved} → m ≡ record { refusal = s .refusal; phase = s .line .phase; action = s .action } → (n : ℕ) (numbers table : List ℕ)
-      → n ≡ m .refusal → numbers ≡ numbersOf (m .action) → table ≡ storedBy (m .refusal) (r .pair) (kept time (m .phase) own) l
+      → n ≡ m .refusal → numbers ≡ numbersOf (m .action) → table ≡ storedBy (m .refusal) (r .pair) (inPhase (current time own) (m .phase)) l
       → returned n numbers part buffer table ≡ run (timed tenant line time e) l
-  unfolding kept inPhase current lineOf
+  unfolding lineOf
   moved passes from read s part buffer is moves n numbers table number action stored =
       taken passes (phased (current time own)) from read s part buffer is n numbers table (number ∙ ap (λ (m : Moved). m .refusal) moves) (action ∙ ap (λ (m : Moved). numbersOf (m .action)) moves)
-      (stored ∙ ap (λ (m : Moved). storedBy (m .refusal) (r .pair) (kept time (m .phase) own) l) moves)
+      (stored ∙ ap (λ (m : Moved). storedBy (m .refusal) (r .pair) (inPhase (current time own) (m .phase)) l) moves)
 
   -- the same where a part is returned: it is the one that the numbers name, within the lent octets
   module _ (text name packet : List ℕ) where
@@ -105,7 +104,7 @@ module _ (tenant line time : ℕ) (e : Event) (short : Bool) (l : List ℕ) (r :
     pub moved-named : Passes r tenant line time short l → {y z : Line} → From e time (r .pair) l own y (phased (current time own)) → z ≡ y → (s : Stepped) (buffer : List ℕ)
         → effectIn s (partNamed (numbersOf (s .action)) text name packet) buffer ≡ effect e time z → PartWithin (numbersOf (s .action)) text name packet
         → {m : Moved} → m ≡ record { refusal = s .refusal; phase = s .line .phase; action = s .action } → (n : ℕ) (numbers table : List ℕ)
-        → n ≡ m .refusal → numbers ≡ numbersOf (m .action) → table ≡ storedBy (m .refusal) (r .pair) (kept time (m .phase) own) l → Named n numbers buffer table
+        → n ≡ m .refusal → numbers ≡ numbersOf (m .action) → table ≡ storedBy (m .refusal) (r .pair) (inPhase (current time own) (m .phase)) l → Named n numbers buffer table
     moved-named passes from read s buffer is within moves n numbers table number action stored =
         let told = action ∙ ap (λ (m : Moved). numbersOf (m .action)) moves in
         rw told (moved passes from read s (partNamed (numbersOf (s .action)) text name packet) buffer is moves n (numbersOf (s .action)) table number (sym told ∙ action) stored, within)

@@ -18,7 +18,7 @@ use table::time_at;
 ghost use mathlib.Core.Path.{_≡_};
 ghost use Rattle.octets.specs.Refusal.{refusal};
 ghost use Rattle.record.specs.Line.{lineOf, InArrays};
-ghost use Rattle.record.specs.Changes.{kept, withHolds, withTunnels};
+ghost use Rattle.record.specs.Changes.{current, inPhase, withChildren, withHolds};
 ghost use Rattle.record.specs.Octets.{lineFrom};
 ghost use Rattle.table.specs.Table.{slot};
 ghost use Rattle.rules.specs.Answer.{numbersOf};
@@ -114,7 +114,7 @@ pub fn settle(
     requires { ⌜ Stands entered (now table) ⌝ }
     ensures { λ r. ⌜ r ≡ moved .refusal ⌝ }
     ensures { λ _. ⌜ now (answer .exit) ≡ numbersOf (moved .action) ⌝ }
-    ensures { λ _. ⌜ now (table .exit) ≡ storedBy (moved .refusal) (entered .pair) (kept time (moved .phase) (lineFrom (slot (now (table .entry)) (entered .at)))) (now (table .entry)) ⌝ }
+    ensures { λ _. ⌜ now (table .exit) ≡ storedBy (moved .refusal) (entered .pair) (inPhase (current time (lineFrom (slot (now (table .entry)) (entered .at)))) (moved .phase)) (now (table .entry)) ⌝ }
 {
     let action = moved.action;
     *answer = numbers(action);
@@ -137,7 +137,7 @@ pub fn settle_tunnels(
     requires { ⌜ Stands entered (now table) × InArrays (stepped .line) ⌝ }
     ensures { λ r. ⌜ r ≡ stepped .refusal ⌝ }
     ensures { λ _. ⌜ now (answer .exit) ≡ numbersOf (stepped .action) ⌝ }
-    ensures { λ _. ⌜ now (table .exit) ≡ storedBy (stepped .refusal) (entered .pair) (withTunnels (lineOf (stepped .line) .children) (kept time (stepped .line .phase) (lineFrom (slot (now (table .entry)) (entered .at))))) (now (table .entry)) ⌝ }
+    ensures { λ _. ⌜ now (table .exit) ≡ storedBy (stepped .refusal) (entered .pair) (withChildren (inPhase (current time (lineFrom (slot (now (table .entry)) (entered .at)))) (stepped .line .phase)) (lineOf (stepped .line) .children)) (now (table .entry)) ⌝ }
 {
     let action = stepped.action;
     *answer = numbers(action);
@@ -162,7 +162,7 @@ pub fn settle_held(
     requires { ⌜ Stands entered (now table) × InArrays (stepped .line) ⌝ }
     ensures { λ r. ⌜ r ≡ stepped .refusal ⌝ }
     ensures { λ _. ⌜ now (answer .exit) ≡ numbersOf (stepped .action) ⌝ }
-    ensures { λ _. ⌜ now (table .exit) ≡ storedBy (stepped .refusal) (entered .pair) (withHolds (lineOf (stepped .line) .holds) (kept time (stepped .line .phase) (lineFrom (slot (now (table .entry)) (entered .at))))) (now (table .entry)) ⌝ }
+    ensures { λ _. ⌜ now (table .exit) ≡ storedBy (stepped .refusal) (entered .pair) (withHolds (inPhase (current time (lineFrom (slot (now (table .entry)) (entered .at)))) (stepped .line .phase)) (lineOf (stepped .line) .holds)) (now (table .entry)) ⌝ }
 {
     let action = stepped.action;
     *answer = numbers(action);

@@ -19,9 +19,10 @@ use Rattle.phase.specs.Stage.{isIn}
 use Rattle.phase.specs.Stage as Stage
 use Rattle.phase.specs.declared.Phase.{Phase}
 use Rattle.phase.specs.declared.Phase.the-variants.{Idle, Country, Name, Chosen, Init, Auth, Eap, Sure, Live}
+use Rattle.record.specs.Changes.{current, inPhase}
 use Rattle.record.specs.Line.{Line}
 use Rattle.record.specs.Sound.{holdsSound, lineSound, mostBusyHolds}
-use Rattle.rules.specs.Life.{becomes, chosenHold, congested, current, ended, inPhase, timerHold}
+use Rattle.rules.specs.Life.{becomes, chosenHold, congested, ended, timerHold}
 use Rattle.rules.specs.Phases.{underway}
 use Rattle.rules.specs.declared.Action.the-variants.{Released}
 use Rattle.timer.specs.declared.Timer.{Timer}

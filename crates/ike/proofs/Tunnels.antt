@@ -16,12 +16,12 @@ use Rattle.children.specs.declared.Child.{Child}
 use Rattle.phase.specs.Stage.{isIn}
 use Rattle.phase.specs.Stage as Stage
 use Rattle.phase.specs.declared.Phase.{Phase}
+use Rattle.record.specs.Changes.{inPhase, withChildren}
 use Rattle.record.specs.Line.{Line, lineOf}
 use Rattle.record.specs.declared.Record.{Record}
 use Rattle.record.proofs.Counts.{child-places}
 use Rattle.record.proofs.Record.{the-type}
 use Rattle.rules.specs.Call.{child-deleted}
-use Rattle.rules.specs.Life.{inPhase, withChildren}
 use Rattle.rules.specs.Refusals.{hasNoRoom, isAllowed, isHeldFull, isMalformed, isOutOfRange, isSpiTaken, refusalsOf}
 use Rattle.rules.specs.declared.Action.{Action}
 use Rattle.step.specs.Step.{Gives}

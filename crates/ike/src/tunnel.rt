@@ -20,9 +20,9 @@ ghost use mathlib.Core.Path.{_≡_};
 ghost use Prim.Native.Nat.{_≤_};
 ghost use lib.ListN.{take};
 ghost use Rattle.children.specs.Children.{mostChildren};
+ghost use Rattle.record.specs.Changes.{withChildren};
 ghost use Rattle.record.specs.Line.{lineOf, InArrays};
 ghost use Rattle.rules.specs.Call.{child-made, child-deleted, ike-delete};
-ghost use Rattle.rules.specs.Life.{withChildren};
 ghost use Rattle.rules.specs.Refusals.{isChild};
 ghost use Rattle.step.specs.Step.{effect, effectIn};
 

@@ -17,18 +17,18 @@ use Rattle.address.specs.declared.Hold.{Hold}
 use Rattle.holds.specs.Holds.{endsAfter, holdsFrom}
 use Rattle.phase.specs.Phase.{phaseOctets}
 use Rattle.phase.specs.declared.Phase.{Phase}
-use Rattle.record.specs.Changes.{Changes, atTime, kept, withHolds}
+use Rattle.record.specs.Changes.{Changes, current, inPhase, withHolds}
 use Rattle.record.specs.Line.{Line}
 use Rattle.record.specs.Octets.{holdsPlace, lineFrom, recordLength, recordOctets, timePlace}
 use Rattle.record.specs.Sound.{isRecord}
 use Rattle.record.proofs.RoundTrip.{few-children, few-holds, write-back}
 use Rattle.record.proofs.Sounds.{sound-line}
-use Rattle.record.proofs.Writing.{head-changed}
+use Rattle.record.proofs.Writing.{atTime, head-changed}
 
 -- a line that is kept has no more holds than before
-pub few-kept : (l : List ℕ) → isRecord l ≡ true → (t : ℕ) (p : Phase) → length (kept t p (lineFrom l) .holds) ≤ 8
-unfolding kept
-few-kept l sound t p = omega (arith, only-length (endsAfter t) (lineFrom l .holds), few-holds (lineFrom l) (sound-line l sound))
+pub few-kept : (l : List ℕ) → isRecord l ≡ true → (t : ℕ) → length (current t (lineFrom l) .holds) ≤ 8
+unfolding current
+few-kept l sound t = omega (arith, only-length (endsAfter t) (lineFrom l .holds), few-holds (lineFrom l) (sound-line l sound))
 
 -- where all pass a test, those that pass are all
 only-whole : {A : Type 0} (p : A → Bool) (l : List A) → allOf p l ≡ true → only p l ≡ l
@@ -51,16 +51,16 @@ module _ (l : List ℕ) (octets : (i : ℕ) → getD l i 0 < 256) (size : length
 
   -- no hold has ended
   pub none-ended : {n : ℕ} {r : Bool} → n ≡ field l 25 1 → r ≡ allOf (endsAfter t) (holdsFrom l holdsPlace n) → r ≡ true → {m : List ℕ} → Wrote l timePlace (be 4 t ++ phaseOctets p) m
-      → m ≡ recordOctets pair (kept t p x)
-  unfolding atTime kept lineFrom
+      → m ≡ recordOctets pair (inPhase (current t x) p)
+  unfolding atTime current inPhase lineFrom
   none-ended {n} count is passed w =
       let all : allOf (endsAfter t) (x .holds) ≡ true = ap (λ (k : ℕ). allOf (endsAfter t) (holdsFrom l holdsPlace k)) (sym count) ∙ sym is ∙ passed in
       moved w ∙ ap (λ (hs : List Hold). recordOctets pair (record { time = t; phase = p; holds = hs; children = x .children })) (sym (only-whole (endsAfter t) (x .holds) all))
 
   -- those in force are written too
   pub some-ended : {n : ℕ} {hs kept-holds : List Hold} → n ≡ field l 25 1 → hs ≡ holdsFrom l holdsPlace n → kept-holds ≡ only (endsAfter t) hs → {k m : List ℕ}
-      → Wrote l timePlace (be 4 t ++ phaseOctets p) k → Changes k m (withHolds kept-holds) → m ≡ recordOctets pair (kept t p x)
-  unfolding atTime kept lineFrom withHolds
+      → Wrote l timePlace (be 4 t ++ phaseOctets p) k → Changes k m (λ y. withHolds y kept-holds) → m ≡ recordOctets pair (inPhase (current t x) p)
+  unfolding atTime current inPhase lineFrom withHolds
   some-ended count read stand w change =
       change pair (atTime t p x) (few-holds x (sound-line l sound)) (few-children x (sound-line l sound)) (moved w)
       ∙ ap (λ (hs : List Hold). recordOctets pair (record { time = t; phase = p; holds = hs; children = x .children }))

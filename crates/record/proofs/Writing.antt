@@ -22,7 +22,7 @@ use Rattle.holds.proofs.Widths.{hold-wide}
 use Rattle.phase.specs.Phase.{phaseOctets}
 use Rattle.phase.specs.declared.Phase.{Phase}
 use Rattle.phase.proofs.Writes.{phase-length}
-use Rattle.record.specs.Changes.{atTime, withHolds, withTunnels}
+use Rattle.record.specs.Changes.{withChildren, withHolds}
 use Rattle.record.specs.Line.{Line}
 use Rattle.record.specs.Octets.{childCountPlace, childrenPlace, holdCountPlace, holdsPlace, recordOctets, recordLength, timePlace}
 
@@ -70,6 +70,10 @@ counted-in {at = at} is same w = record { wrote = w .wrote ∙ ap₂ (λ (k : Li
 pub still-room : (k : ℕ) {l m vs : List ℕ} {at : ℕ} → Wrote l at vs m → k ≤ length l → k ≤ length m
 still-room k w h = subst (λ (n : ℕ). k ≤ n) (sym (wrote-length w)) h
 
+-- the same line at another time and in another phase
+unfoldable pub atTime : ℕ → Phase → Line → Line
+atTime time p x = record { time = time; phase = p; holds = x .holds; children = x .children }
+
 -- a record that is changed where it lies
 module _ (pair : ℕ) (x : Line) where
   abbrev h : List ℕ
@@ -100,7 +104,7 @@ module _ (pair : ℕ) (x : Line) where
 
   -- other holds, with their count
   pub holds-changed : (hs : List Hold) → length (x .holds) ≤ 8 → length hs ≤ 8 → {l₁ l₂ l₃ : List ℕ} → Wrote (recordOctets pair x) holdCountPlace (be 1 (length hs)) l₁
-      → Wrote l₁ holdsPlace (zeros holdsRoom) l₂ → Wrote l₂ holdsPlace (joined holdOctets hs) l₃ → l₃ ≡ recordOctets pair (withHolds hs x)
+      → Wrote l₁ holdsPlace (zeros holdsRoom) l₂ → Wrote l₂ holdsPlace (joined holdOctets hs) l₃ → l₃ ≡ recordOctets pair (withHolds x hs)
   unfolding recordOctets withHolds be digits holdsOctets
   holds-changed hs few-before few {l₁} {l₂} {l₃} w₁ w₂ w₃ =
       let js = joined holdOctets hs in
@@ -128,8 +132,8 @@ module _ (pair : ℕ) (x : Line) where
   -- other children, with their count
   pub children-changed : (cs : List Child) → length (x .holds) ≤ 8 → length (x .children) ≤ 8 → length cs ≤ 8 → {l₁ l₂ l₃ : List ℕ}
       → Wrote (recordOctets pair x) childCountPlace (be 1 (length cs)) l₁ → Wrote l₁ childrenPlace (zeros childrenRoom) l₂ → Wrote l₂ childrenPlace (joined childOctets cs) l₃
-      → l₃ ≡ recordOctets pair (withTunnels cs x)
-  unfolding recordOctets withTunnels be digits childrenOctets
+      → l₃ ≡ recordOctets pair (withChildren x cs)
+  unfolding recordOctets withChildren be digits childrenOctets
   children-changed cs few-holds few-before few {l₁} {l₂} {l₃} w₁ w₂ w₃ =
       let js = joined childOctets cs in
       let size : length js ≡ 5 * length cs = length-joined childOctets 5 child-wide cs in

@@ -1,4 +1,4 @@
--- What becomes of a line that is changed where it lies.
+-- Another line made of a line, and what becomes of the record in which it lies.
 use Prim.Native.Nat.{ℕ, _≤_}
 use mathlib.Core.List.{List, []}
 use mathlib.Core.Path.{_≡_}
@@ -13,23 +13,30 @@ use Rattle.phase.specs.declared.Phase.{Phase}
 use Rattle.record.specs.Line.{Line}
 use Rattle.record.specs.Octets.{recordOctets}
 
--- the same line at another time and in another phase, with other holds, with other children
-unfoldable pub atTime : ℕ → Phase → Line → Line
-atTime time p x = record { time = time; phase = p; holds = x .holds; children = x .children }
+-- a line's ended holds are dropped at each accepted timed call on it, and its time is stored (document 01, 'Life of a line')
+unfoldable pub current : ℕ → Line → Line
+current time x = record {
+  time = time;
+  phase = x .phase;
+  holds = only (endsAfter time) (x .holds);
+  children = x .children;
+}
 
-unfoldable pub withHolds : List Hold → Line → Line
-withHolds hs x = record { time = x .time; phase = x .phase; holds = hs; children = x .children }
+-- the same line in another phase
+unfoldable pub inPhase : Line → Phase → Line
+inPhase x p = record { time = x .time; phase = p; holds = x .holds; children = x .children }
 
-unfoldable pub withTunnels : List Child → Line → Line
-withTunnels cs x = record { time = x .time; phase = x .phase; holds = x .holds; children = cs }
+-- the same line with other holds
+unfoldable pub withHolds : Line → List Hold → Line
+withHolds x hs = record { time = x .time; phase = x .phase; holds = hs; children = x .children }
 
--- a line of which the phase and the children are known alone
+-- the same line with other children
+unfoldable pub withChildren : Line → List Child → Line
+withChildren x cs = record { time = x .time; phase = x .phase; holds = x .holds; children = cs }
+
+-- what a step that looks neither at the time nor at the holds of a line needs of it: its phase and its children
 unfoldable pub unheld : Phase → List Child → Line
 unheld p cs = record { time = 0; phase = p; holds = []; children = cs }
-
--- the line at a time in a phase, without its holds that have ended
-unfoldable pub kept : ℕ → Phase → Line → Line
-kept time p x = record { time = time; phase = p; holds = only (endsAfter time) (x .holds); children = x .children }
 
 -- where the octets l are those of a record, m are those of the record with its line changed
 abbrev pub Changes : List ℕ → List ℕ → (Line → Line) → Type 0

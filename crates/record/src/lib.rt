@@ -32,7 +32,7 @@ ghost use Rattle.address.specs.Address.{mostHolds};
 ghost use Rattle.children.specs.Children.{mostChildren};
 ghost use Rattle.phase.specs.Phase.{phaseOctets};
 ghost use Rattle.phase.specs.declared.Phase.the-variants.{Idle};
-ghost use Rattle.record.specs.Changes.{Changes, kept, unheld, withHolds, withTunnels};
+ghost use Rattle.record.specs.Changes.{Changes, current, inPhase, unheld, withChildren, withHolds};
 ghost use Rattle.record.specs.Laws.{Laws};
 ghost use Rattle.record.specs.Line.{lineOf, InArrays};
 ghost use Rattle.record.specs.Octets.{childCountPlace, holdCountPlace, lineFrom, recordLength, recordOctets, timePlace};
@@ -154,7 +154,7 @@ fn put_head(b: &mut [u8], time: u64, phase: Phase)
 // Stores the first n of a list as the holds in a record.
 fn put_held(b: &mut [u8], list: [Hold; HOLDS], n: usize)
     requires { ⌜ (length (now b) ≡ recordLength) × (n ≤ mostHolds) ⌝ }
-    ensures { λ _. ⌜ Changes (now (b .entry)) (now (b .exit)) (withHolds (take n list)) ⌝ }
+    ensures { λ _. ⌜ Changes (now (b .entry)) (now (b .exit)) (λ x. withHolds x (take n list)) ⌝ }
 {
     put(b, HOLD_COUNT_AT, 1, n as u64);
     zero(&mut b[HOLDS_AT..CHILDREN_AT]);
@@ -164,7 +164,7 @@ fn put_held(b: &mut [u8], list: [Hold; HOLDS], n: usize)
 // Stores the first n of a list as the children in a record.
 fn put_tunnels(b: &mut [u8], list: [Child; CHILDREN], n: usize)
     requires { ⌜ (length (now b) ≡ recordLength) × (n ≤ mostChildren) ⌝ }
-    ensures { λ _. ⌜ Changes (now (b .entry)) (now (b .exit)) (withTunnels (take n list)) ⌝ }
+    ensures { λ _. ⌜ Changes (now (b .entry)) (now (b .exit)) (λ x. withChildren x (take n list)) ⌝ }
 {
     put(b, CHILD_COUNT_AT, 1, n as u64);
     zero(&mut b[CHILDREN_AT..RECORD]);
@@ -174,7 +174,7 @@ fn put_tunnels(b: &mut [u8], list: [Child; CHILDREN], n: usize)
 // Stores the time and the phase of the line in a sound record, and drops its holds that have ended.
 pub fn keep(b: &mut [u8], time: u64, phase: Phase)
     requires { ⌜ (length (now b) ≡ recordLength) × (isRecord (now b) ≡ true) ⌝ }
-    ensures { λ _. ⌜ now (b .exit) ≡ recordOctets (field (now (b .entry)) 0 1) (kept time phase (lineFrom (now (b .entry)))) ⌝ }
+    ensures { λ _. ⌜ now (b .exit) ≡ recordOctets (field (now (b .entry)) 0 1) (inPhase (current time (lineFrom (now (b .entry)))) phase) ⌝ }
 {
     let n = get(b, HOLD_COUNT_AT, 1) as usize;
     if all_in_force(b, HOLDS_AT, n, time) {
@@ -190,7 +190,7 @@ pub fn keep(b: &mut [u8], time: u64, phase: Phase)
 // The same, with the first n of a list as its children.
 pub fn keep_tunnels(b: &mut [u8], time: u64, phase: Phase, list: [Child; CHILDREN], n: usize)
     requires { ⌜ (length (now b) ≡ recordLength) × (isRecord (now b) ≡ true) × (n ≤ mostChildren) ⌝ }
-    ensures { λ _. ⌜ now (b .exit) ≡ recordOctets (field (now (b .entry)) 0 1) (withTunnels (take n list) (kept time phase (lineFrom (now (b .entry))))) ⌝ }
+    ensures { λ _. ⌜ now (b .exit) ≡ recordOctets (field (now (b .entry)) 0 1) (withChildren (inPhase (current time (lineFrom (now (b .entry)))) phase) (take n list)) ⌝ }
 {
     keep(b, time, phase);
     put_tunnels(b, list, n);
@@ -199,7 +199,7 @@ pub fn keep_tunnels(b: &mut [u8], time: u64, phase: Phase, list: [Child; CHILDRE
 // The same, with the first n of a list as its holds.
 pub fn keep_held(b: &mut [u8], time: u64, phase: Phase, list: [Hold; HOLDS], n: usize)
     requires { ⌜ (length (now b) ≡ recordLength) × (isRecord (now b) ≡ true) × (n ≤ mostHolds) ⌝ }
-    ensures { λ _. ⌜ now (b .exit) ≡ recordOctets (field (now (b .entry)) 0 1) (withHolds (take n list) (kept time phase (lineFrom (now (b .entry))))) ⌝ }
+    ensures { λ _. ⌜ now (b .exit) ≡ recordOctets (field (now (b .entry)) 0 1) (withHolds (inPhase (current time (lineFrom (now (b .entry)))) phase) (take n list)) ⌝ }
 {
     keep(b, time, phase);
     put_held(b, list, n);

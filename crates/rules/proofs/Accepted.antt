@@ -25,6 +25,7 @@ use Rattle.phase.specs.Chosen.{chosen}
 use Rattle.phase.specs.Laws.{phaseStorable}
 use Rattle.phase.specs.Phase.{phaseFits}
 use Rattle.phase.specs.Stage.{isIn}
+use Rattle.record.specs.Changes.{current}
 use Rattle.record.specs.Laws.{lineStorable}
 use Rattle.record.specs.Line.{Line}
 use Rattle.record.specs.Octets.{lineFrom, recordLength}
@@ -39,7 +40,7 @@ use Rattle.table.proofs.Views.{found-pair, line-found, open-found, zeros-pair}
 use Rattle.rules.specs.Call.{Event, Call, opening, closing, listing, timed, eventOctets, lastTime, lentOctets, pairOf, tenantOf}
 use Rattle.rules.specs.Claims.{Good, NoRow}
 use Rattle.rules.specs.Histories.{isOctets}
-use Rattle.rules.specs.Life.{current, outcome}
+use Rattle.rules.specs.Life.{outcome}
 use Rattle.rules.specs.Refusals.{eventRefusals, isAboveLast, isFull, isNoPair, isNotOpen, isOpenAlready, refusals, refusalsOf}
 use Rattle.rules.specs.Run.{Act, step, stepOf, timedStep}
 use Rattle.rules.specs.View.{View, fresh, lineFound, lineOr, lineSeen, ownLine, viewIn, viewOf}

@@ -14,6 +14,7 @@ use Rattle.eap.specs.declared.Packet.{Packet}
 use Rattle.eap.specs.declared.Packet.the-variants.{Start, NasRequest, Success, NasResponse, Stop, Other}
 use Rattle.lists.specs.Lists.{addressesIn, networksIn}
 use Rattle.phase.specs.Chosen.{chosen}
+use Rattle.record.specs.Changes.{current, inPhase, withChildren}
 use Rattle.record.specs.Line.{Line}
 use Rattle.selection.specs.Selection as Selection
 use Rattle.timer.specs.Timer.{timerOf, unitSeconds}
@@ -21,7 +22,7 @@ use Rattle.timer.specs.declared.Timer.the-variants as Timer
 use Rattle.rules.specs.After.{After, childrenAfter, congestionHold, holdAdded}
 use Rattle.rules.specs.Call.{Event, start, country, address, begin, init, eap, reply, final, error, congestion, give-up, child-made, child-deleted, ike-delete, timed, factsOf}
 use Rattle.rules.specs.Claims.{Timed, lineIn}
-use Rattle.rules.specs.Life.{chosenHold, congested, current, finished, goes, inPhase, keeps, outcome, packetTaken, timerHold, withChildren}
+use Rattle.rules.specs.Life.{chosenHold, congested, finished, goes, keeps, outcome, packetTaken, timerHold}
 use Rattle.rules.specs.Phases.{factsIn, owed, turnIn}
 use Rattle.rules.specs.Run.{run}
 use Rattle.rules.proofs.Goes.{addressed-goes, answered-goes, replied-goes, started-goes}

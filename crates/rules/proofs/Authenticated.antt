@@ -20,6 +20,7 @@ use Rattle.phase.specs.Stage as Stage
 use Rattle.phase.specs.declared.Phase.{Phase}
 use Rattle.phase.specs.declared.Phase.the-variants.{Idle, Sure, Live}
 use Rattle.place.specs.declared.Facts.{Facts}
+use Rattle.record.specs.Changes.{current}
 use Rattle.record.specs.Line.{Line}
 use Rattle.table.specs.Slots.{lineAt, pairIn, slotLine, slotsOf}
 use Rattle.table.specs.Table.{recordOf}
@@ -30,7 +31,7 @@ use Rattle.rules.specs.declared.Action.{Action}
 use Rattle.rules.specs.Call.{Event, eap, final, Call, opening, closing, listing, timed, pairOf, lastTime}
 use Rattle.rules.specs.Claims.{Good, Timed, lineIn}
 use Rattle.rules.specs.Histories.{isOctets}
-use Rattle.rules.specs.Life.{current, outcome}
+use Rattle.rules.specs.Life.{outcome}
 use Rattle.rules.specs.Phases.{lastReply, turnIn}
 use Rattle.rules.specs.Run.{Result, run, step, stepOf, timedStep}
 use Rattle.rules.proofs.Accepted.{line-range, ready, timed-pair}

@@ -21,9 +21,9 @@ use Rattle.phase.specs.Stage.{isIn}
 use Rattle.phase.specs.Stage as Stage
 use Rattle.phase.specs.declared.Phase.{Phase}
 use Rattle.phase.specs.declared.Phase.the-variants.{Idle}
+use Rattle.record.specs.Changes.{inPhase, withChildren}
 use Rattle.record.specs.Line.{Line}
 use Rattle.record.specs.Sound.{chosenFree}
-use Rattle.rules.specs.Life.{inPhase, withChildren}
 use Rattle.rules.specs.Refusals.{isChild}
 use Rattle.rules.proofs.Valid.{ChildrenValid, Valid}
 

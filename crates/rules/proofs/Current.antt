@@ -19,9 +19,9 @@ use Rattle.phase.specs.Chosen.{chosen}
 use Rattle.phase.specs.Stage.{isIn}
 use Rattle.phase.specs.Stage as Stage
 use Rattle.phase.specs.declared.Phase.{Phase}
+use Rattle.record.specs.Changes.{current}
 use Rattle.record.specs.Line.{Line}
 use Rattle.record.specs.Sound.{chosenFree}
-use Rattle.rules.specs.Life.{current}
 use Rattle.octets.proofs.Search.{or-second, smaller}
 use Rattle.octets.proofs.Sublists.{any-map, distinct-map, only-all, only-distinct, only-length, only-none, only-passes}
 use Rattle.rules.proofs.Valid.{HoldsValid, Valid}

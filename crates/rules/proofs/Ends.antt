@@ -24,13 +24,14 @@ use Rattle.phase.specs.Phase.{phaseFits}
 use Rattle.phase.specs.Stage.{isIn}
 use Rattle.phase.specs.Stage as Stage
 use Rattle.phase.specs.declared.Phase.the-variants.{Idle}
+use Rattle.record.specs.Changes.{inPhase}
 use Rattle.record.specs.Line.{Line}
 use Rattle.record.specs.Sound.{chosenFree}
 use Rattle.timer.proofs.Lengths.{seconds-fit}
 use Rattle.timer.specs.Timer.{timerOf}
 use Rattle.timer.specs.declared.Timer.{Timer}
 use Rattle.timer.specs.declared.Timer.the-variants as Timer
-use Rattle.rules.specs.Life.{congested, chosenHold, timerHold, inPhase}
+use Rattle.rules.specs.Life.{congested, chosenHold, timerHold}
 use Rattle.rules.proofs.Moves.{children-stay, rests, room-left}
 use Rattle.rules.proofs.Phases.{chosen-storable}
 use Rattle.rules.proofs.Valid.{HoldsValid, Valid}

@@ -11,11 +11,12 @@ use Rattle.gateway.specs.declared.Found.{Found}
 use Rattle.gateway.specs.declared.Found.the-variants as Found
 use Rattle.network.specs.declared.Plmn.{Plmn}
 use Rattle.place.specs.declared.Facts.{Facts}
+use Rattle.record.specs.Changes.{inPhase}
 use Rattle.record.specs.Line.{Line}
 use Rattle.selection.specs.Selection as Selection
 use Rattle.selection.specs.declared.Choice.{Choice}
 use Rattle.selection.specs.declared.Choice.the-variants as Choice
-use Rattle.rules.specs.Life.{Outcome, addressAnswered, countryAnswered, decided, gatewayFound, goes, inPhase, nameAsked, replied, started}
+use Rattle.rules.specs.Life.{Outcome, addressAnswered, countryAnswered, decided, gatewayFound, goes, nameAsked, replied, started}
 
 -- an outcome with all of the line but its phase as it was
 abbrev pub OnlyPhase : Line → Outcome → Type 0

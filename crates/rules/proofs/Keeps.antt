@@ -20,13 +20,14 @@ use Rattle.phase.specs.Stage.{Stage, isIn, stageNumber}
 use Rattle.phase.specs.Stage as Stage
 use Rattle.phase.specs.declared.Phase.{Phase}
 use Rattle.phase.specs.declared.Phase.the-variants.{Init, Auth, Live}
+use Rattle.record.specs.Changes.{current}
 use Rattle.record.specs.Laws.{lineStorable}
 use Rattle.record.specs.Line.{Line}
 use Rattle.record.specs.Sound.{lineSound}
 use Rattle.selection.specs.Selection as Selection
 use Rattle.rules.specs.Call.{Event, start, country, address, begin, init, eap, reply, final, error, congestion, give-up, child-made, child-deleted, ike-delete, eventOctets, lastTime, startNumbersFit}
 use Rattle.rules.specs.declared.StartNumbers.{StartNumbers}
-use Rattle.rules.specs.Life.{current, finished, goes, keeps, outcome}
+use Rattle.rules.specs.Life.{finished, goes, keeps, outcome}
 use Rattle.rules.specs.Phases.{factsIn, owed, turnIn, underway}
 use Rattle.rules.specs.Refusals.{hasNoRoom, isAllowed, isChild, isHeldFull, isOutOfRange, isSpiTaken, refusalsOf}
 use Rattle.rules.proofs.Children.{child-deleted-valid, child-made-valid, deleted-valid}

@@ -16,9 +16,10 @@ use Rattle.phase.specs.Stage.{isIn}
 use Rattle.phase.specs.Stage as Stage
 use Rattle.phase.specs.declared.Phase.{Phase}
 use Rattle.phase.specs.declared.Phase.the-variants.{Idle, Init, Auth, Sure, Live}
+use Rattle.record.specs.Changes.{inPhase}
 use Rattle.record.specs.Line.{Line}
 use Rattle.record.specs.Sound.{chosenFree}
-use Rattle.rules.specs.Life.{inPhase, onward}
+use Rattle.rules.specs.Life.{onward}
 use Rattle.rules.proofs.Phases.{chosen-busy, chosen-storable}
 use Rattle.rules.proofs.Valid.{ChildrenValid, PhaseValid, Valid}
 

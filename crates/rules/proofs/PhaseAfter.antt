@@ -33,6 +33,7 @@ use Rattle.phase.specs.declared.Turn.{Turn}
 use Rattle.phase.specs.declared.Turn.the-variants.{First, Owed, Answered}
 use Rattle.place.specs.declared.Facts.{Facts}
 use Rattle.preference.specs.Preference.{ranked, unranked}
+use Rattle.record.specs.Changes.{current, inPhase, withChildren}
 use Rattle.record.specs.Line.{Line}
 use Rattle.selection.specs.Selection as Selection
 use Rattle.selection.specs.declared.Choice.{Choice}
@@ -45,7 +46,7 @@ use Rattle.rules.specs.declared.Action.the-variants as Action
 use Rattle.rules.specs.Call.{Event, start, country, address, begin, init, eap, reply, final, error, congestion, give-up, child-made, child-deleted, ike-delete, timed, factsOf, lastTime}
 use Rattle.rules.specs.declared.StartNumbers.{StartNumbers}
 use Rattle.rules.specs.Claims.{Timed, lineIn}
-use Rattle.rules.specs.Life.{addressAnswered, congested, countryAnswered, current, decided, ended, finished, gatewayFound, goes, inPhase, keeps, nameAsked, onward, outcome, packetTaken, replied, started, withChildren}
+use Rattle.rules.specs.Life.{addressAnswered, congested, countryAnswered, decided, ended, finished, gatewayFound, goes, keeps, nameAsked, onward, outcome, packetTaken, replied, started}
 use Rattle.rules.specs.Phases.{factsIn, lastReply, owed, turnIn, underway}
 use Rattle.rules.specs.Refusals.{isAllowed, isDue, isMalformed, isIdentifier, isOutOfRange}
 use Rattle.rules.specs.Run.{answerOf, run}

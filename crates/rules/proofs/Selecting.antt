@@ -35,6 +35,7 @@ use Rattle.place.specs.declared.Facts.{Facts}
 use Rattle.place.specs.declared.Place.{Place}
 use Rattle.place.specs.declared.Place.the-variants.{Unknown, Home, Abroad}
 use Rattle.preference.specs.Preference.{ranked, unranked}
+use Rattle.record.specs.Changes.{inPhase}
 use Rattle.record.specs.Line.{Line}
 use Rattle.record.specs.Sound.{chosenFree}
 use Rattle.selection.specs.Selection as Selection
@@ -42,7 +43,7 @@ use Rattle.selection.specs.declared.Choice.{Choice}
 use Rattle.selection.specs.declared.Choice.the-variants as Choice
 use Rattle.rules.specs.Call.{factsOf, startNumbersFit, placeOf, registeredOf}
 use Rattle.rules.specs.declared.StartNumbers.{StartNumbers}
-use Rattle.rules.specs.Life.{addressAnswered, countryAnswered, nameAsked, decided, gatewayFound, goes, inPhase, started}
+use Rattle.rules.specs.Life.{addressAnswered, countryAnswered, nameAsked, decided, gatewayFound, goes, started}
 use Rattle.rules.specs.Phases.{factsIn}
 use Rattle.rules.proofs.Moves.{moves, rests, room-left}
 use Rattle.rules.proofs.Nodes.{nodeStorable, settingsStorable}

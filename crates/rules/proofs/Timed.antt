@@ -16,6 +16,7 @@ use Rattle.gateway.specs.declared.Found.{Found}
 use Rattle.gateway.specs.declared.Found.the-variants as Found
 use Rattle.lists.specs.Lists.{addressesIn, networksIn}
 use Rattle.place.specs.declared.Facts.{Facts}
+use Rattle.record.specs.Changes.{current}
 use Rattle.record.specs.Line.{Line}
 use Rattle.selection.specs.Selection as Selection
 use Rattle.selection.specs.Stops.{Ends, Exactly, addresses, countryReached, startReached, stopFound, stopOf}
@@ -28,7 +29,7 @@ use Rattle.rules.specs.Answer.{numbersOf, twelve}
 use Rattle.rules.specs.Call.{Event, start, country, address, Call, timed, factsOf, lastTime, pairOf, tenantOf}
 use Rattle.rules.specs.declared.StartNumbers.{StartNumbers}
 use Rattle.rules.specs.Claims.{NoRow, Timed, isPastLast, lineIn, onLine, stopSaid}
-use Rattle.rules.specs.Life.{Outcome, addressAnswered, countryAnswered, nameAsked, current, decided, gatewayFound, goes, outcome, started}
+use Rattle.rules.specs.Life.{Outcome, addressAnswered, countryAnswered, nameAsked, decided, gatewayFound, goes, outcome, started}
 use Rattle.rules.specs.Phases.{factsIn}
 use Rattle.rules.specs.Refusals.{isEarly, isOutOfRange, refusalsOf}
 use Rattle.rules.specs.Run.{Result, Step, answerOf, run, step, stepOf, timedStep}

@@ -15,10 +15,11 @@ use Rattle.children.specs.Children.{hasSpi, isOther, isSpi, sameSpi, spisDiffer
 use Rattle.children.specs.declared.Child.{Child}
 use Rattle.phase.specs.Stage.{isIn}
 use Rattle.phase.specs.Stage as Stage
+use Rattle.record.specs.Changes.{current, withChildren}
 use Rattle.record.specs.Line.{Line}
 use Rattle.rules.specs.Call.{child-made, child-deleted, timed, pairOf}
 use Rattle.rules.specs.Claims.{Good, Timed, lineIn}
-use Rattle.rules.specs.Life.{current, outcome, withChildren}
+use Rattle.rules.specs.Life.{outcome}
 use Rattle.rules.specs.Refusals.{isAllowed}
 use Rattle.rules.specs.Run.{run}
 use Rattle.rules.proofs.Accepted.{found-storable, found-sound}

@@ -18,6 +18,7 @@ use Rattle.lists.specs.Lists.{addressesIn, networksIn}
 use Rattle.phase.specs.Stage.{isIn}
 use Rattle.phase.specs.Stage as Stage
 use Rattle.place.specs.declared.Facts.{Facts}
+use Rattle.record.specs.Changes.{current, withChildren}
 use Rattle.record.specs.Octets.{recordLength}
 use Rattle.record.specs.Line.{Line}
 use Rattle.record.specs.Sound.{lastLine}
@@ -35,7 +36,7 @@ use Rattle.rules.specs.Computed as Computed
 use Rattle.rules.specs.FormExamples as FormExamples
 use Rattle.rules.specs.Histories.{answersTo, isOctets, remaining, tableAfter}
 use Rattle.rules.specs.HoldExamples as HoldExamples
-use Rattle.rules.specs.Life.{current, outcome, withChildren}
+use Rattle.rules.specs.Life.{outcome}
 use Rattle.rules.specs.LayoutExamples as LayoutExamples
 use Rattle.rules.specs.LifeExamples as LifeExamples
 use Rattle.rules.specs.Listing.{listFrom}

@@ -32,6 +32,7 @@ use Rattle.children.specs.Children as Children
 use Rattle.children.specs.Laws as ChildLaws
 use Rattle.phase.specs.Chosen as Chosen
 use Rattle.phase.specs.Stage as Stage
+use Rattle.record.specs.Changes as RecordChanges
 use Rattle.table.specs.Slots as TableSlots
 use Rattle.table.specs.Table.{recordCount}
 use Rattle.rules.specs.Call as RulesCall
@@ -109,9 +110,9 @@ unfolding empty slotsOn
     RulesRefusals.isChild RulesRefusals.isOutOfRange RulesRefusals.isMalformed RulesRefusals.isIdentifier RulesRefusals.isDue
     RulesRefusals.isAllowed RulesRefusals.isSpiTaken RulesRefusals.hasNoRoom RulesRefusals.isHeldFull
     RulesRefusals.refusalsOf RulesRefusals.eventRefusals RulesRefusals.refusals
-    RulesLife.current RulesLife.inPhase RulesLife.goes RulesLife.onward RulesLife.keeps RulesLife.gatewayFound RulesLife.nameAsked
+    RecordChanges.current RecordChanges.inPhase RulesLife.goes RulesLife.onward RulesLife.keeps RulesLife.gatewayFound RulesLife.nameAsked
     RulesLife.decided RulesLife.started RulesLife.countryAnswered RulesLife.addressAnswered RulesLife.packetTaken RulesLife.replied RulesLife.finished
-    RulesLife.ended RulesLife.timerHold RulesLife.chosenHold RulesLife.congested RulesLife.withChildren RulesLife.outcome
+    RulesLife.ended RulesLife.timerHold RulesLife.chosenHold RulesLife.congested RecordChanges.withChildren RulesLife.outcome
     RulesListing.tab RulesListing.newline RulesListing.word RulesListing.addressText RulesListing.childText RulesListing.lineText RulesListing.listFrom
     RulesRun.bare RulesRun.answerOf RulesRun.timedStep RulesRun.step
     RulesOnSlots.appliedOn RulesOnSlots.settledOn RulesOnSlots.runOn RulesOnSlots.answersOn

@@ -57,7 +57,9 @@ illFormed =
     ∷ ("home|262|01" ∷ "plmn|901|01|05" ∷ [])
     ∷ ("home|262|01" ∷ "plmn|901|01|" ∷ [])
     ∷ ("home|262|01" ∷ "plmn|901|01|1" ∷ "plmn|901|001|2" ∷ [])
+    ∷ ("home|262|01" ∷ "plmn|901|01|1" ∷ "plmn|902|01|1" ∷ "plmn|901|001|2" ∷ [])
     ∷ ("home|262|01" ∷ "bar|901|01" ∷ "bar|901|001" ∷ [])
+    ∷ ("home|262|01" ∷ "bar|901|01" ∷ "bar|902|01" ∷ "bar|901|001" ∷ [])
     ∷ ("home|262|01" ∷ "bar|901|01" ∷ "plmn|902|01|1" ∷ [])
     ∷ ("home|262|01" ∷ "plmn|901|01|1" ∷ "node|v4|c0000207" ∷ [])
     ∷ []
@@ -147,9 +149,14 @@ forms =
           packet 3 14 254 0xAF 1 0 [] ∷ packet 1 13 254 0xAF 1 0 [] ∷ packet 1 14 253 0xAF 1 0 [] ∷ packet 1 14 254 0xAE 1 0 []
           ∷ packet 1 14 254 0xAF 3 0 [] ∷ packet 2 14 254 0xAF 4 0 [] ∷ now (eap laterReply) ∷ now (eap []) ∷ now (eap (4 ∷ 7 ∷ 0 ∷ 4 ∷ []))
           ∷ now (eap (3 ∷ 7 ∷ 0 ∷ 5 ∷ [])) ∷ now (eap (3 ∷ 7 ∷ 0 ∷ 5 ∷ 0 ∷ [])) ∷ now (eap (3 ∷ 7 ∷ 0 ∷ 4 ∷ 0 ∷ []))
+          -- another octet of the vendor, and another vendor type
+          ∷ now (eap (0x01 ∷ 7 ∷ 0 ∷ 14 ∷ 0xFE ∷ 0x01 ∷ 0x28 ∷ 0xAF ∷ 0 ∷ 0 ∷ 0 ∷ 3 ∷ 1 ∷ 0 ∷ []))
+          ∷ now (eap (0x01 ∷ 7 ∷ 0 ∷ 14 ∷ 0xFE ∷ 0x00 ∷ 0x29 ∷ 0xAF ∷ 0 ∷ 0 ∷ 0 ∷ 3 ∷ 1 ∷ 0 ∷ []))
+          ∷ now (eap (0x01 ∷ 7 ∷ 0 ∷ 14 ∷ 0xFE ∷ 0x00 ∷ 0x28 ∷ 0xAF ∷ 0 ∷ 0 ∷ 0 ∷ 4 ∷ 1 ∷ 0 ∷ []))
+          ∷ now (eap (0x01 ∷ 7 ∷ 0 ∷ 14 ∷ 0xFE ∷ 0x00 ∷ 0x28 ∷ 0xAF ∷ 1 ∷ 0 ∷ 0 ∷ 3 ∷ 1 ∷ 0 ∷ []))
           -- Start without its spare octet
           ∷ now (eap (0x01 ∷ 7 ∷ 0 ∷ 13 ∷ 0xFE ∷ 0x00 ∷ 0x28 ∷ 0xAF ∷ 0 ∷ 0 ∷ 0 ∷ 3 ∷ 1 ∷ [])) ∷ [];
-      says = replicate 13 (declined 9);
+      says = replicate 17 (declined 9);
     }
     -- NAS that is empty or runs past the end is 9
     ∷ record {

@@ -20,7 +20,6 @@ use Rattle.eap.specs.declared.Packet.the-variants.{Start, NasRequest, Success, 
 use Rattle.gateway.specs.Gateway.{choose}
 use Rattle.gateway.specs.declared.Found.{Found}
 use Rattle.gateway.specs.declared.Found.the-variants as Found
-use Rattle.holds.specs.Holds.{endsAfter}
 use Rattle.network.specs.declared.Plmn.{Plmn}
 use Rattle.lists.specs.Lists.{addressesIn, networksIn}
 use Rattle.phase.specs.Chosen.{chosen}
@@ -31,6 +30,7 @@ use Rattle.phase.specs.declared.Phase.the-variants.{Idle, Country, Name, Chosen
 use Rattle.phase.specs.declared.Turn.the-variants.{First, Owed, Answered}
 use Rattle.place.specs.declared.Facts.{Facts}
 use Rattle.query.specs.Query.{asked, built}
+use Rattle.record.specs.Changes.{inPhase, withChildren}
 use Rattle.record.specs.Line.{Line}
 use Rattle.response.specs.Response.{response}
 use Rattle.selection.specs.Selection as Selection
@@ -44,25 +44,12 @@ use Rattle.rules.specs.declared.Action.the-variants as Action
 use Rattle.rules.specs.Call.{Event, start, country, address, begin, init, eap, reply, final, error, congestion, give-up, child-made, child-deleted, ike-delete, factsOf}
 use Rattle.rules.specs.Phases.{factsIn, owed, turnIn}
 
--- a line's ended holds are dropped at each accepted timed call on it, and its time is stored
-unfoldable pub current : ℕ → Line → Line
-current time x = record {
-  time = time;
-  phase = x .phase;
-  holds = only (endsAfter time) (x .holds);
-  children = x .children;
-}
-
 -- the line afterwards, the action, the octets of the returned part and those written to the answer buffer
 pub record Outcome : Type 0 where
   pub line : Line
   pub action : Action
   pub part : List ℕ
   pub written : List ℕ
-
--- another phase of the same line
-unfoldable pub inPhase : Line → Phase → Line
-inPhase x p = record { time = x .time; phase = p; holds = x .holds; children = x .children }
 
 -- a line and an action, with nothing returned or written
 abbrev pub becomes : Line → Action → Outcome
@@ -175,10 +162,6 @@ congested x t = record {
   holds = x .holds ++ chosenHold (x .time) t (chosen (x .phase));
   children = x .children;
 }
-
--- the same line with other children
-unfoldable pub withChildren : Line → List Child → Line
-withChildren x cs = record { time = x .time; phase = x .phase; holds = x .holds; children = cs }
 
 -- one clause for each row of the table; the line is the one that the call finds, its time stored and without its ended holds
 unfoldable pub outcome : Event → Line → Outcome

@@ -64,6 +64,18 @@ lives =
       calls = listing 0 1024 ∷ [];
       says = lists (shown "line|0|live|c0000207|1" ++ shown "child|0|0000c0de|5" ++ shown "line|2|idle|-|0") ∷ [];
     }
+    -- an SPI has all its eight digits
+    ∷ record {
+      before = toLive ++ now (child-made 0xdeadbeef 15) ∷ [];
+      calls = listing 0 1024 ∷ [];
+      says = lists (shown "line|0|live|c0000207|1" ++ shown "child|0|deadbeef|15") ∷ [];
+    }
+    -- a later reply may have AN-parameters too
+    ∷ record {
+      before = toAnswered ++ now (eap (nasPacket 7)) ∷ [];
+      calls = now (reply parameters nas 3090) ∷ [];
+      says = writes 3090 (Action.SendResponse 22) [] firstReply ∷ [];
+    }
     -- children in the order made; the deleted one is gone and the other stays
     ∷ record {
       before = toChildren;

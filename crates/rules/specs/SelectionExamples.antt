@@ -3,6 +3,7 @@ use Prim.Native.Nat.{ℕ}
 use Prim.Native.String.{String}
 use mathlib.Core.List.{List, [], _∷_, _++_, map}
 use mathlib.Core.Path.{_≡_, refl}
+use lib.ListN.{replicate}
 use Rattle.octets.specs.Part.{zeros}
 use Rattle.address.specs.declared.Address.{Address}
 use Rattle.address.specs.declared.Address.the-variants.{V4, V6}
@@ -74,6 +75,7 @@ selections =
     -- with all three digits of its MNC, and whatever PLMN is registered to
     ∷ starting atHome (shown "home|310|410") (asks "n3iwf.5gc.mnc410.mcc310.pub.3gppnetwork.org")
     ∷ starting (startNumbers 1 0 1 901 2 4) plain (asks "n3iwf.5gc.mnc001.mcc262.pub.3gppnetwork.org")
+    ∷ starting (startNumbers 1 0 1 901 2 4) roaming (asks "n3iwf.5gc.mnc001.mcc262.pub.3gppnetwork.org")
     ∷ starting atHome (plain ++ shown "bar|262|001") (asks "n3iwf.5gc.mnc001.mcc262.pub.3gppnetwork.org")
     -- the octets past the written part are zeros, in a longer buffer too
     ∷ record {
@@ -96,6 +98,8 @@ selections =
     ∷ answering (abroad 901) roaming 0 [] (gives (Action.Stopped 2 0))
     -- none: the best of the `plmn` records with the visited MCC and not barred, the earlier record on a tie
     ∷ answering (abroad 901) roaming 1 [] (asks "n3iwf.5gc.mnc002.mcc901.pub.3gppnetwork.org")
+    -- and not the registered PLMN
+    ∷ answering (registeredTo 901 9) roaming 1 [] (asks "n3iwf.5gc.mnc002.mcc901.pub.3gppnetwork.org")
     -- priorities are compared as numbers, of one digit, two or three
     ∷ answering (abroad 901) (plain ++ shown "plmn|901|01|10" ++ shown "plmn|901|02|9") 1 [] (asks "n3iwf.5gc.mnc002.mcc901.pub.3gppnetwork.org")
     ∷ answering (abroad 901) (plain ++ shown "plmn|901|01|100" ++ shown "plmn|901|02|99") 1 [] (asks "n3iwf.5gc.mnc002.mcc901.pub.3gppnetwork.org")
@@ -145,6 +149,7 @@ selections =
     ∷ choosing toName (V6 1 2 ∷ V6 1 3 ∷ V4 0xc0000207 ∷ []) (Action.Chose (V4 0xc0000207) 2)
     -- also more than two, and one address twice
     ∷ choosing toName (V6 1 2 ∷ V6 1 2 ∷ V6 1 3 ∷ V4 0xc0000207 ∷ []) (Action.Chose (V4 0xc0000207) 3)
+    ∷ choosing toName (replicate 15 (V6 1 2) ++ V4 0xc0000207 ∷ []) (Action.Chose (V4 0xc0000207) 15)
     -- the local IP version is the start's, whichever name was asked, at home and abroad
     ∷ choosing (starts atHome6 named) (V4 0xc0000207 ∷ V6 1 3 ∷ []) (Action.Chose (V6 1 3) 1)
     ∷ choosing (starts atHome6 plain) (V4 0xc0000207 ∷ V6 1 3 ∷ []) (Action.Chose (V6 1 3) 1)
@@ -155,6 +160,7 @@ selections =
     -- if there is none, stop 4 with all of them passed over
     ∷ choosing toName [] (Action.Stopped 4 0)
     ∷ choosing toName (V6 1 2 ∷ V6 1 3 ∷ []) (Action.Stopped 4 2)
+    ∷ choosing toName (replicate 16 (V6 1 2)) (Action.Stopped 4 16)
     -- one on hold is passed over
     ∷ choosing (toIdle ++ congest 100 0xc0000207 0xE0 ++ now (start atHome named 64) ∷ []) (V4 0xc0000207 ∷ V4 0xc0000208 ∷ [])
     (Action.Chose (V4 0xc0000208) 1)

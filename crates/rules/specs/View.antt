@@ -6,12 +6,12 @@ use mathlib.Core.Option.{Option, none, some}
 use lib.ListN.{getD}
 use Rattle.octets.specs.Row.{row}
 use Rattle.phase.specs.declared.Phase.the-variants.{Idle}
+use Rattle.record.specs.Changes.{current}
 use Rattle.record.specs.Sound.{lastLine}
 use Rattle.record.specs.Line.{Line}
 use Rattle.table.specs.Slots.{Slot, isOpen, lineAt, slotsOf}
 use Rattle.table.specs.Table.{freePair, isTable}
 use Rattle.rules.specs.Call.{Call, pairOf, tenantOf}
-use Rattle.rules.specs.Life.{current}
 
 pub record View : Type 0 where
   pub sound : Bool

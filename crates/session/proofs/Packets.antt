@@ -14,11 +14,12 @@ use Rattle.eap.specs.declared.Packet.{Packet}
 use Rattle.eap.specs.declared.Packet.the-variants.{Start, NasRequest, Success, NasResponse, Stop, Other}
 use Rattle.eap.proofs.Packet.{the-type}
 use Rattle.eap.proofs.Reading.{request-within}
+use Rattle.record.specs.Changes.{current}
 use Rattle.record.specs.Line.{InArrays, Line, lineOf}
 use Rattle.record.specs.declared.Record.{Record}
 use Rattle.rules.specs.Answer.{PartWithin, eventRoom, lentIn, numbersOf, partNamed, twelve}
 use Rattle.rules.specs.Call.{eap, lastTime}
-use Rattle.rules.specs.Life.{current, goes, keeps, outcome, packetTaken}
+use Rattle.rules.specs.Life.{goes, keeps, outcome, packetTaken}
 use Rattle.rules.specs.Refusals.{hasNoRoom, isAllowed, isDue, isHeldFull, isMalformed, isOutOfRange, isSpiTaken, refusalsOf}
 use Rattle.rules.specs.declared.Action.{Action}
 use Rattle.rules.specs.declared.Action.the-variants as Action

@@ -17,13 +17,14 @@ use Rattle.phase.specs.Chosen.{chosen}
 use Rattle.phase.specs.declared.Phase.the-variants.{Eap}
 use Rattle.phase.specs.declared.Turn.{Turn}
 use Rattle.phase.specs.declared.Turn.the-variants.{Answered}
+use Rattle.record.specs.Changes.{current, inPhase}
 use Rattle.record.specs.Line.{InArrays, lineOf}
 use Rattle.record.specs.declared.Record.{Record}
 use Rattle.response.specs.Response.{lentOutOfRange, replyRoom, response}
 use Rattle.response.proofs.Writing.{in-range}
 use Rattle.rules.specs.Answer.{eventRoom}
 use Rattle.rules.specs.Call.{Event, lastTime, reply}
-use Rattle.rules.specs.Life.{current, inPhase, onward, outcome, replied}
+use Rattle.rules.specs.Life.{onward, outcome, replied}
 use Rattle.rules.specs.Phases.{owed, turnIn}
 use Rattle.rules.specs.Refusals.{hasNoRoom, isAllowed, isHeldFull, isMalformed, isOutOfRange, isSpiTaken, lacksParameters, refusalsOf}
 use Rattle.rules.specs.declared.Action.the-variants as Action

@@ -8,11 +8,12 @@ use lib.Dec.{ltb}
 use Rattle.octets.specs.Part.{padded, zeros}
 use Rattle.octets.specs.Refusal.{refusal}
 use Rattle.octets.specs.Row.{isSome}
+use Rattle.record.specs.Changes.{current}
 use Rattle.record.specs.Line.{Line}
 use Rattle.table.specs.Table.{isTable}
 use Rattle.rules.specs.Answer.{eventRoom, numberCount, numbersOf, refused, twelve}
 use Rattle.rules.specs.Call.{Event, Call, timed, lastTime, pairOf}
-use Rattle.rules.specs.Life.{Outcome, current}
+use Rattle.rules.specs.Life.{Outcome}
 use Rattle.rules.specs.Refusals.{eventRefusals, isEarly, isFull, isNoPair, isNotOpen, isOpenAlready, isShort, refusals, refusalsOf}
 use Rattle.rules.specs.Run.{Result, answerOf, applied, run, settled, step, stepOf, timedStep}
 use Rattle.rules.specs.View.{View, lineFound, lineOr, lineSeen, viewIn, viewOf}

@@ -7,11 +7,12 @@ use native.Mathlib.Omega.{arith}
 use lib.Dec.{ltb}
 use Rattle.octets.specs.Part.{padded, zeros}
 use Rattle.octets.specs.Refusal.{refusal}
+use Rattle.record.specs.Changes.{current}
 use Rattle.record.specs.Line.{Line, lineOf}
 use Rattle.record.specs.declared.Record.{Record}
 use Rattle.rules.specs.Answer.{eventRoom}
 use Rattle.rules.specs.Call.{Event, lastTime}
-use Rattle.rules.specs.Life.{Outcome, becomes, current, outcome}
+use Rattle.rules.specs.Life.{Outcome, becomes, outcome}
 use Rattle.rules.specs.Refusals.{hasNoRoom, isAllowed, isHeldFull, isMalformed, isOutOfRange, isSpiTaken, refusalsOf}
 use Rattle.rules.specs.declared.Action.{Action}
 use Rattle.rules.specs.declared.Action.the-variants as Action

@@ -9,10 +9,11 @@ use Rattle.octets.specs.Part.{padded}
 use Rattle.octets.specs.Refusal.{Refusal, refusal}
 use Rattle.eap.specs.declared.Packet.{Packet}
 use Rattle.eap.specs.declared.Packet.the-variants.{Start, NasRequest, Success, NasResponse, Stop, Other}
+use Rattle.record.specs.Changes.{current, inPhase, withChildren, withHolds}
 use Rattle.record.specs.Line.{Line}
 use Rattle.rules.specs.Answer.{eventRoom}
 use Rattle.rules.specs.Call.{Event, start, country, address, begin, init, eap, reply, final, error, congestion, give-up, child-made, child-deleted, ike-delete, lastTime}
-use Rattle.rules.specs.Life.{Outcome, congested, current, finished, goes, inPhase, keeps, outcome, packetTaken, replied, withChildren}
+use Rattle.rules.specs.Life.{Outcome, congested, finished, goes, keeps, outcome, packetTaken, replied}
 use Rattle.rules.specs.Refusals.{hasNoRoom, isAllowed, isHeldFull, isOutOfRange, isSpiTaken, refusalsOf}
 use Rattle.rules.specs.Run.{Result}
 use Rattle.rules.specs.View.{fresh}
@@ -55,7 +56,7 @@ abbrev pub tunnelled : Line → Line → Line
 tunnelled x z = withChildren (phased x z) (z .children)
 
 abbrev pub held : Line → Line → Line
-held x z = record { time = x .time; phase = z .phase; holds = z .holds; children = x .children }
+held x z = withHolds (phased x z) (z .holds)
 
 -- an outcome with another line
 abbrev onto : (Line → Line) → Outcome → Outcome
@@ -106,7 +107,7 @@ module _ (x y : Line) where
 
 -- one clause for each event
 by-kind : (e : Event) → ByKind (kindOf e) e
-unfolding kindOf refusalsOf isOutOfRange isAllowed isSpiTaken hasNoRoom isHeldFull outcome keeps goes inPhase withChildren congested
+unfolding kindOf refusalsOf isOutOfRange isAllowed isSpiTaken hasNoRoom isHeldFull outcome keeps goes inPhase withChildren withHolds congested
 by-kind (start g t room) = λ x. selects (start g t room) x (started-goes x _ t _)
 by-kind (country n networks t room) = λ x. selects (country n networks t room) x (answered-goes x _ _ t _)
 by-kind (address list) = λ x. selects (address list) x (addressed-goes x _ _)

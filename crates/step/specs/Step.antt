@@ -5,10 +5,11 @@ use mathlib.Core.Path.{_≡_}
 use lib.Dec.{ltb}
 use Rattle.octets.specs.Part.{padded}
 use Rattle.octets.specs.Refusal.{refusal}
+use Rattle.record.specs.Changes.{current}
 use Rattle.record.specs.Line.{Line, lineOf, InArrays}
 use Rattle.rules.specs.Answer.{eventRoom}
 use Rattle.rules.specs.Call.{Event, lastTime}
-use Rattle.rules.specs.Life.{Outcome, becomes, current, outcome}
+use Rattle.rules.specs.Life.{Outcome, becomes, outcome}
 use Rattle.rules.specs.Refusals.{refusalsOf}
 use Rattle.rules.specs.declared.Action.{Action}
 use Rattle.rules.specs.declared.Action.the-variants as Action

@@ -30,7 +30,7 @@ ghost use Rattle.octets.specs.Search.{least};
 ghost use Rattle.address.specs.Address.{mostHolds};
 ghost use Rattle.children.specs.Children.{mostChildren};
 ghost use Rattle.phase.specs.declared.Phase.the-variants.{Idle};
-ghost use Rattle.record.specs.Changes.{kept, unheld, withHolds, withTunnels};
+ghost use Rattle.record.specs.Changes.{current, inPhase, unheld, withChildren, withHolds};
 ghost use Rattle.record.specs.Line.{lineOf, InArrays};
 ghost use Rattle.record.specs.Octets.{lineFrom, recordLength, recordOctets};
 ghost use Rattle.table.specs.Laws.{Laws};
@@ -154,7 +154,7 @@ pub fn unheld_at(table: &[u8], i: usize) -> Record
 // Stores the time and the phase of the line in a used record, and drops its holds that have ended.
 pub fn keep_at(table: &mut [u8], i: usize, time: u64, phase: Phase)
     requires { ⌜ UsedAt (now table) i ⌝ }
-    ensures { λ _. ⌜ Wrote (now (table .entry)) (recordLength * i) (recordOctets (field (slot (now (table .entry)) i) 0 1) (kept time phase (lineFrom (slot (now (table .entry)) i)))) (now (table .exit)) ⌝ }
+    ensures { λ _. ⌜ Wrote (now (table .entry)) (recordLength * i) (recordOctets (field (slot (now (table .entry)) i) 0 1) (inPhase (current time (lineFrom (slot (now (table .entry)) i))) phase)) (now (table .exit)) ⌝ }
 {
     let at = RECORD * i;
     keep(&mut table[at..at + RECORD], time, phase);
@@ -170,7 +170,7 @@ pub fn keep_tunnels_at(
     n: usize,
 )
     requires { ⌜ UsedAt (now table) i × (n ≤ mostChildren) ⌝ }
-    ensures { λ _. ⌜ Wrote (now (table .entry)) (recordLength * i) (recordOctets (field (slot (now (table .entry)) i) 0 1) (withTunnels (take n list) (kept time phase (lineFrom (slot (now (table .entry)) i))))) (now (table .exit)) ⌝ }
+    ensures { λ _. ⌜ Wrote (now (table .entry)) (recordLength * i) (recordOctets (field (slot (now (table .entry)) i) 0 1) (withChildren (inPhase (current time (lineFrom (slot (now (table .entry)) i))) phase) (take n list))) (now (table .exit)) ⌝ }
 {
     let at = RECORD * i;
     keep_tunnels(&mut table[at..at + RECORD], time, phase, list, n);
@@ -186,7 +186,7 @@ pub fn keep_held_at(
     n: usize,
 )
     requires { ⌜ UsedAt (now table) i × (n ≤ mostHolds) ⌝ }
-    ensures { λ _. ⌜ Wrote (now (table .entry)) (recordLength * i) (recordOctets (field (slot (now (table .entry)) i) 0 1) (withHolds (take n list) (kept time phase (lineFrom (slot (now (table .entry)) i))))) (now (table .exit)) ⌝ }
+    ensures { λ _. ⌜ Wrote (now (table .entry)) (recordLength * i) (recordOctets (field (slot (now (table .entry)) i) 0 1) (withHolds (inPhase (current time (lineFrom (slot (now (table .entry)) i))) phase) (take n list))) (now (table .exit)) ⌝ }
 {
     let at = RECORD * i;
     keep_held(&mut table[at..at + RECORD], time, phase, list, n);

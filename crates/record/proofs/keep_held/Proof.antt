@@ -1,7 +1,7 @@
 -- `record::keep_held` meets its contract: the line is kept, and its holds are written.
 use denote.Ref.{now}
 use borrow.Author.Needs.{needs}
-use Rattle.record.specs.Changes.{kept}
+use Rattle.record.specs.Changes.{current, inPhase}
 use Rattle.record.proofs.Keeping.{few-kept}
 use Rattle.record.proofs.RoundTrip.{few-children}
 use Rattle.record.proofs.Sounds.{sound-line}
@@ -18,13 +18,13 @@ same-length : tie.Need-same-length
 same-length c = search needs
 
 returns : tie.Need-returns
-unfolding kept
+unfolding current inPhase
 returns c =
     let kept-here = c .before .before .before .before .before .before in
     let start = kept-here .before .before .before in
     let a = start .args in
     let sound = start .pre .1 in
-    c .before .before .put-held .ensures _ _ (few-kept (now (a .b)) sound (a .time) (a .phase)) (few-children _ (sound-line (now (a .b)) sound)) (kept-here .keep .ensures)
+    c .before .before .put-held .ensures _ _ (few-kept (now (a .b)) sound (a .time)) (few-children _ (sound-line (now (a .b)) sound)) (kept-here .keep .ensures)
 
 pub keep-held-spec : {M : Type 1} → statement M
 keep-held-spec =

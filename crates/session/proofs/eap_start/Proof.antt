@@ -3,8 +3,9 @@ use borrow.Author.Needs.{needs}
 use Rattle.phase.specs.Chosen.{chosen}
 use Rattle.phase.specs.Stage as Stage
 use Rattle.phase.proofs.Stages.{other-stage, same-stage, tags}
+use Rattle.record.specs.Changes.{inPhase}
 use Rattle.record.specs.Line.{lineOf}
-use Rattle.rules.specs.Life.{goes, inPhase, keeps, onward, packetTaken}
+use Rattle.rules.specs.Life.{goes, keeps, onward, packetTaken}
 use Rattle.rules.specs.Refusals.{isDue}
 use Rattle.session.proofs.Packets.{due, not-due}
 use Rattle.session.proofs.eap_start.Statement.{statement}

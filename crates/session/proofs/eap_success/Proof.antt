@@ -4,8 +4,9 @@ use borrow.Author.Tests.{eq-eqb, ne-eqb}
 use Rattle.phase.specs.Chosen.{chosen}
 use Rattle.phase.specs.Stage as Stage
 use Rattle.phase.proofs.Stages.{other-stage, tags}
+use Rattle.record.specs.Changes.{inPhase}
 use Rattle.record.specs.Line.{lineOf}
-use Rattle.rules.specs.Life.{goes, inPhase, keeps, onward, packetTaken}
+use Rattle.rules.specs.Life.{goes, keeps, onward, packetTaken}
 use Rattle.rules.specs.Phases.{lastReply, turnIn}
 use Rattle.rules.specs.Refusals.{isDue, isIdentifier}
 use Rattle.session.proofs.Packets.{due, not-due}

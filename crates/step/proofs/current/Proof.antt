@@ -5,8 +5,8 @@ use native.Mathlib.Omega.{arith}
 use lib.ListN.{take}
 use borrow.Author.Needs.{needs}
 use Rattle.address.specs.declared.Hold.{Hold}
+use Rattle.record.specs.Changes.{current}
 use Rattle.record.specs.Line.{lineOf}
-use Rattle.rules.specs.Life.{current}
 use Rattle.step.proofs.current.Statement.{statement}
 use Rattle.step.proofs.current.Tie as tie
 

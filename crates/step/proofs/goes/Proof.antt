@@ -1,6 +1,6 @@
 -- `step::goes` meets its contract: only the phase is another.
 use mathlib.Core.Path.{refl}
-use Rattle.rules.specs.Life.{inPhase}
+use Rattle.record.specs.Changes.{inPhase}
 use Rattle.record.specs.Line.{lineOf}
 use Rattle.step.proofs.goes.Statement.{statement}
 use Rattle.step.proofs.goes.Tie as tie

@@ -1,7 +1,7 @@
 -- `table::keep_at` meets its contract: the octets of one record are those of the line that is kept.
 use denote.Ref.{now}
 use borrow.Author.Needs.{needs}
-use Rattle.record.specs.Changes.{kept}
+use Rattle.record.specs.Changes.{current, inPhase}
 use Rattle.table.proofs.Within.{changed-at, lent-size, lent-sound}
 use Rattle.table.proofs.keep_at.Statement.{statement}
 use Rattle.table.proofs.keep_at.Tie as tie
@@ -34,7 +34,7 @@ returns c =
     let a = c .before .before .before .before .before .args in
     let used = c .before .before .before .before .before .pre in
     let put = c .before .before .keep in
-    changed-at (now (a .table)) (a .i) (used) (kept (a .time) (a .phase)) _ (put .ensures) (put .kept .0)
+    changed-at (now (a .table)) (a .i) (used) (λ x. inPhase (current (a .time) x) (a .phase)) _ (put .ensures) (put .kept .0)
 
 pub keep-at-spec : {M : Type 1} → statement M
 keep-at-spec =

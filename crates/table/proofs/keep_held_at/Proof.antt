@@ -2,7 +2,7 @@
 use lib.ListN.{take}
 use denote.Ref.{now}
 use borrow.Author.Needs.{needs}
-use Rattle.record.specs.Changes.{kept, withHolds}
+use Rattle.record.specs.Changes.{current, inPhase, withHolds}
 use Rattle.table.proofs.Within.{changed-at, lent-size, lent-sound}
 use Rattle.table.proofs.keep_held_at.Statement.{statement}
 use Rattle.table.proofs.keep_held_at.Tie as tie
@@ -35,7 +35,7 @@ returns c =
     let a = c .before .before .before .before .before .args in
     let used = c .before .before .before .before .before .pre in
     let put = c .before .before .keep-held in
-    changed-at (now (a .table)) (a .i) (used .0) (λ x. withHolds (take (a .n) (a .list)) (kept (a .time) (a .phase) x)) _ (put .ensures) (put .kept .0)
+    changed-at (now (a .table)) (a .i) (used .0) (λ x. withHolds (inPhase (current (a .time) x) (a .phase)) (take (a .n) (a .list))) _ (put .ensures) (put .kept .0)
 
 pub keep-held-at-spec : {M : Type 1} → statement M
 keep-held-at-spec =

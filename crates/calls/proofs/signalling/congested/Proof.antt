@@ -3,7 +3,7 @@ use mathlib.Core.Path.{refl, ap, _∙_}
 use denote.Ref.{now}
 use borrow.Author.Needs.{needs}
 use Rattle.octets.specs.Part.{zeros}
-use Rattle.record.specs.Changes.{kept, withHolds}
+use Rattle.record.specs.Changes.{current}
 use Rattle.record.specs.Line.{lineOf}
 use Rattle.record.specs.Octets.{lineFrom}
 use Rattle.record.specs.Sound.{lineSound}
@@ -11,7 +11,6 @@ use Rattle.record.proofs.Sounds.{sound-line}
 use Rattle.table.specs.Table.{slot}
 use Rattle.rules.specs.Answer.{eventRoom, roomOf}
 use Rattle.rules.specs.Call.{congestion}
-use Rattle.rules.specs.Life.{current}
 use Rattle.rules.specs.Refusals.{isShort, leastEventRoom, leastRoom}
 use Rattle.step.proofs.Views.{congested-alone, held, kindOf}
 use Rattle.calls.proofs.Timed.{taken, turned-away}
@@ -47,7 +46,7 @@ same-length-2 : tie.Need-same-length-2
 same-length-2 c = search needs
 
 returns-2 : tie.Need-returns-2
-unfolding isShort roomOf leastRoom leastEventRoom eventRoom zeros kindOf kept current withHolds lineOf
+unfolding isShort roomOf leastRoom leastEventRoom eventRoom zeros kindOf lineOf
 returns-2 c =
     let settle = c .before .before .settle-held in
     let step = c .before .before .before .before .before in

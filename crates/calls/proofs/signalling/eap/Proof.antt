@@ -2,10 +2,9 @@
 use mathlib.Core.Path.{refl}
 use borrow.Author.Needs.{needs}
 use Rattle.octets.specs.Part.{zeros}
-use Rattle.record.specs.Changes.{unheld}
+use Rattle.record.specs.Changes.{inPhase, unheld}
 use Rattle.rules.specs.Answer.{eventRoom, roomOf}
 use Rattle.rules.specs.Call.{eap}
-use Rattle.rules.specs.Life.{inPhase}
 use Rattle.rules.specs.Refusals.{isShort, leastEventRoom, leastRoom}
 use Rattle.rules.specs.View.{fresh}
 use Rattle.step.proofs.Views.{by-phase, kindOf}

@@ -2,8 +2,7 @@
 use mathlib.Core.Path.{refl}
 use borrow.Author.Needs.{needs}
 use Rattle.octets.specs.Part.{zeros}
-use Rattle.record.specs.Changes.{unheld}
-use Rattle.rules.specs.Life.{inPhase}
+use Rattle.record.specs.Changes.{inPhase, unheld}
 use Rattle.rules.specs.View.{fresh}
 use Rattle.step.proofs.Views.{by-phase}
 use Rattle.ike.specs.Events.{eventOf}

@@ -3,11 +3,10 @@ use mathlib.Core.Path.{refl}
 use denote.Ref.{now}
 use borrow.Author.Needs.{needs}
 use Rattle.octets.specs.Part.{zeros}
-use Rattle.record.specs.Changes.{kept, unheld, withTunnels}
+use Rattle.record.specs.Changes.{current, inPhase, unheld, withChildren}
 use Rattle.record.specs.Line.{lineOf}
 use Rattle.record.specs.Octets.{lineFrom}
 use Rattle.table.specs.Table.{slot}
-use Rattle.rules.specs.Life.{current, inPhase, withChildren}
 use Rattle.rules.specs.View.{fresh}
 use Rattle.step.proofs.Views.{on-tunnels, tunnelled}
 use Rattle.ike.specs.Events.{tunnelEventOf}
@@ -44,7 +43,7 @@ same-length-2 : tie.Need-same-length-2
 same-length-2 c = search needs
 
 returns-2 : tie.Need-returns-2
-unfolding fresh inPhase unheld withChildren kept current withTunnels lineOf
+unfolding fresh inPhase unheld withChildren lineOf
 returns-2 c =
     let settle = c .before .before .settle-tunnels in
     let step = c .before .before .before .before .before in

@@ -5,10 +5,11 @@ use borrow.Author.Tests.{not-true, not-false}
 use Rattle.octets.specs.Part.{padded, zeros}
 use Rattle.phase.specs.Stage as Stage
 use Rattle.phase.proofs.Stages.{is-in, not-in}
+use Rattle.record.specs.Changes.{inPhase, withChildren}
 use Rattle.record.specs.Line.{lineOf}
 use Rattle.rules.specs.Answer.{eventRoom}
 use Rattle.rules.specs.Call.{child-deleted}
-use Rattle.rules.specs.Life.{inPhase, outcome, withChildren}
+use Rattle.rules.specs.Life.{outcome}
 use Rattle.step.proofs.Steps.{late, taken, turned-away}
 use Rattle.ike.proofs.Tunnels.{deleted, deleted-absent, deleted-away, gone}
 use Rattle.ike.proofs.tunnel.child_deleted.Statement.{statement}

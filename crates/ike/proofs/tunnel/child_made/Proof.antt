@@ -8,11 +8,12 @@ use Rattle.octets.specs.Part.{padded, zeros}
 use Rattle.children.specs.Children.{mostChildren}
 use Rattle.phase.specs.Stage as Stage
 use Rattle.phase.proofs.Stages.{is-in, not-in}
+use Rattle.record.specs.Changes.{inPhase, withChildren}
 use Rattle.record.specs.Line.{lineOf}
 use Rattle.record.proofs.Counts.{child-count}
 use Rattle.rules.specs.Answer.{eventRoom}
 use Rattle.rules.specs.Call.{child-made}
-use Rattle.rules.specs.Life.{inPhase, outcome, withChildren}
+use Rattle.rules.specs.Life.{outcome}
 use Rattle.rules.specs.Refusals.{hasNoRoom, isAllowed, isHeldFull, isMalformed, isOutOfRange, isSpiTaken}
 use Rattle.step.proofs.Steps.{accepted, late, no-room, spi-taken, taken, turned-away, unfit, untimely}
 use Rattle.ike.proofs.Tunnels.{child-behind, gone}

@@ -1,7 +1,7 @@
 -- `ike::tunnel::with_children` meets its contract: only the children are others.
 use mathlib.Core.Path.{refl}
+use Rattle.record.specs.Changes.{withChildren}
 use Rattle.record.specs.Line.{lineOf}
-use Rattle.rules.specs.Life.{withChildren}
 use Rattle.ike.proofs.tunnel.with_children.Statement.{statement}
 use Rattle.ike.proofs.tunnel.with_children.Tie as tie
 
