@@ -21,7 +21,7 @@ ghost use Rattle.rules.specs.Run.{run};
 ghost use Rattle.ike.specs.Events.{eventOf};
 ghost use Rattle.calls.specs.Returned.{returned};
 
-// A call whose event changes the phase of the line alone and comes with numbers.
+// A call whose event comes with numbers alone and changes only the phase of the line.
 pub fn on_line(
     table: &mut [u8],
     tenant: u64,

@@ -23,10 +23,10 @@ pub enum Kind {
     Bar,
 }
 
-// One more than the greatest number that an MNC takes in the number of a listed entry.
+// How many numbers the place of an MNC has room for in the number of a listed entry.
 const MNC_ROOM: u64 = 1024;
 
-// One more than the greatest number that a priority takes in it.
+// How many numbers the place of a priority has room for in the number of a listed entry.
 const PRIORITY_ROOM: u64 = 256;
 
 // The number that a listed entry is kept as: its MCC, then its MNC, then its priority.
@@ -52,7 +52,7 @@ pub fn listed_in(x: u64) -> Preferred
 
 // What stands at a place where a listed entry may begin.
 pub(crate) enum Listed {
-    // The number that keeps it, and the place behind it.
+    // The number that keeps the entry, and where the next line begins.
     Is(u64, usize),
     // Something else.
     Not,

@@ -82,14 +82,14 @@ pub fn enter(table: &[u8], tenant: u64, line: u64, time: u64, short: bool) -> En
     }
 }
 
-// What a step answers that changes the phase of its line alone: the refusal number, the phase afterwards, and what the daemon has to do.
+// What is left of a step's answer where only the phase changes: the refusal number, the phase afterwards, and what the daemon has to do.
 pub struct Moved {
     pub refusal: u64,
     pub phase: Phase,
     pub action: Action,
 }
 
-// The same of a step's answer.
+// The part of a step's answer that `settle` needs.
 pub fn move_of(stepped: Stepped) -> Moved
     ensures { λ r. ⌜ r ≡ record { refusal = stepped .refusal; phase = stepped .line .phase; action = stepped .action } ⌝ }
 {
@@ -126,7 +126,7 @@ pub fn settle(
     0
 }
 
-// The same, with the children that the step leaves.
+// Stores time, phase and children that a step leaves, unless it was refused, and answers.
 pub fn settle_tunnels(
     table: &mut [u8],
     entered: Entered,
@@ -151,7 +151,7 @@ pub fn settle_tunnels(
     0
 }
 
-// The same, with the holds that the step leaves.
+// Stores time, phase and holds that a step leaves, unless it was refused, and answers.
 pub fn settle_held(
     table: &mut [u8],
     entered: Entered,

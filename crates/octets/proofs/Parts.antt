@@ -1,7 +1,7 @@
 -- The laws of parts, of octets spliced into a list, and of padding.
 use Prim.Native.Nat.{ℕ, zero, suc, _+_, _-_, _≤_, _<_}
 use mathlib.Core.Bool.{true, false≢true}
-use mathlib.Core.List.{List, [], _∷_, _++_, append-assoc, append-nil}
+use mathlib.Core.List.{List, [], _∷_, _++_}
 use mathlib.Core.Path.{_≡_, refl, sym, ap, ap₂, _∙_}
 use native.Mathlib.Nat.{add-zero, add-suc, suc-add, zero-add, ne-of-gt, sub-zero, zero-sub, suc-sub-suc}
 use native.Mathlib.Omega.{arith}
@@ -91,30 +91,7 @@ pub getD-part : (l : List ℕ) (at n i : ℕ) → i < n → getD (part l at n) i
 unfolding part
 getD-part l at n i h = rw (getD-take, getD-drop)
 
--- zeros with a text stored from their start
-pub padded-sets : (n : ℕ) (vs : List ℕ) → length vs ≤ n → sets (zeros n) 0 vs ≡ padded n vs
-padded-sets n vs h = padded-wrote n vs (sets (zeros n) 0 vs) h (record { wrote = refl })
-
 pub zeros-append : (k n : ℕ) → zeros k ++ zeros n ≡ zeros (k + n)
 unfolding zeros
 zeros-append zero n = ap zeros (sym (zero-add n))
 zeros-append (suc k) n = ap (λ (l : List ℕ). 0 ∷ l) (zeros-append k n) ∙ ap zeros (sym (suc-add k n))
-
--- zeros that were there count as written
-pub wrote-gap : (n k : ℕ) (vs m : List ℕ) → length vs + k ≤ n → Wrote (zeros n) 0 vs m → Wrote (zeros n) 0 (vs ++ zeros k) m
-unfolding padded
-wrote-gap n k vs m h w =
-    let size : length (vs ++ zeros k) ≡ length vs + k = length-append vs (zeros k) ∙ ap (λ (i : ℕ). length vs + i) (length-zeros k) in
-    let left : k + (n - length (vs ++ zeros k)) ≡ n - length vs = omega (arith, size) in
-    record {
-      wrote =
-          padded-wrote n vs m (omega arith) w ∙ ap (λ (i : ℕ). vs ++ zeros i) (sym left) ∙ ap (λ (l : List ℕ). vs ++ l) (sym (zeros-append k (n - length (vs ++ zeros k))))
-          ∙ sym (append-assoc vs (zeros k) (zeros (n - length (vs ++ zeros k)))) ∙ sym (padded-sets n (vs ++ zeros k) (omega (arith, size)));
-    }
-
--- what fills all of the zeros is what is there
-pub wrote-whole : (n : ℕ) (vs m : List ℕ) → length vs ≡ n → Wrote (zeros n) 0 vs m → m ≡ vs
-unfolding padded zeros
-wrote-whole n vs m e w =
-    let none : n - length vs ≡ 0 = omega arith in
-    padded-wrote n vs m (omega arith) w ∙ ap (λ (i : ℕ). vs ++ zeros i) none ∙ append-nil vs

@@ -34,7 +34,7 @@ withHolds x hs = record { time = x .time; phase = x .phase; holds = hs; children
 unfoldable pub withChildren : Line → List Child → Line
 withChildren x cs = record { time = x .time; phase = x .phase; holds = x .holds; children = cs }
 
--- what a step that looks neither at the time nor at the holds of a line needs of it: its phase and its children
+-- a line of which only the phase and the children are known
 unfoldable pub unheld : Phase → List Child → Line
 unheld p cs = record { time = 0; phase = p; holds = []; children = cs }
 

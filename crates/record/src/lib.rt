@@ -92,7 +92,7 @@ pub fn read_record(b: &[u8]) -> Record
     }
 }
 
-// A line of which the phase and the first n of a list as its children are known alone.
+// A line of which only the phase is known, and the children: the first n of a list.
 fn unheld(phase: Phase, children: [Child; CHILDREN], n: usize) -> Record
     requires { ⌜ n ≤ mostChildren ⌝ }
     ensures { λ r. ⌜ lineOf r ≡ unheld phase (take n children) ⌝ }
@@ -112,7 +112,7 @@ fn unheld(phase: Phase, children: [Child; CHILDREN], n: usize) -> Record
     }
 }
 
-// The line in a record's octets, of which the phase is known alone.
+// The line in a record's octets, of which only the phase is known.
 pub fn read_unlisted(b: &[u8]) -> Record
     requires { ⌜ recordLength ≤ length (now b) ⌝ }
     ensures { λ r. ⌜ lineOf r ≡ unheld (lineFrom (now (b .entry)) .phase) [] ⌝ }
@@ -122,7 +122,7 @@ pub fn read_unlisted(b: &[u8]) -> Record
     unheld(read_phase(b, PHASE_AT), none, 0)
 }
 
-// The line in a record's octets, of which the phase and the children are known alone.
+// The line in a record's octets, of which only the phase and the children are known.
 pub fn read_unheld(b: &[u8]) -> Record
     requires { ⌜ (recordLength ≤ length (now b)) × (field (now b) childCountPlace 1 ≤ mostChildren) ⌝ }
     ensures { λ r. ⌜ lineOf r ≡ unheld (lineFrom (now (b .entry)) .phase) (lineFrom (now (b .entry)) .children) ⌝ }
@@ -187,7 +187,7 @@ pub fn keep(b: &mut [u8], time: u64, phase: Phase)
     put_held(b, list, standing.count);
 }
 
-// The same, with the first n of a list as its children.
+// Stores time and phase like `keep`, and the first n of a list as the children.
 pub fn keep_tunnels(b: &mut [u8], time: u64, phase: Phase, list: [Child; CHILDREN], n: usize)
     requires { ⌜ (length (now b) ≡ recordLength) × (isRecord (now b) ≡ true) × (n ≤ mostChildren) ⌝ }
     ensures { λ _. ⌜ now (b .exit) ≡ recordOctets (field (now (b .entry)) 0 1) (withChildren (inPhase (current time (lineFrom (now (b .entry)))) phase) (take n list)) ⌝ }
@@ -196,7 +196,7 @@ pub fn keep_tunnels(b: &mut [u8], time: u64, phase: Phase, list: [Child; CHILDRE
     put_tunnels(b, list, n);
 }
 
-// The same, with the first n of a list as its holds.
+// Stores time and phase like `keep`, and the first n of a list as the holds.
 pub fn keep_held(b: &mut [u8], time: u64, phase: Phase, list: [Hold; HOLDS], n: usize)
     requires { ⌜ (length (now b) ≡ recordLength) × (isRecord (now b) ≡ true) × (n ≤ mostHolds) ⌝ }
     ensures { λ _. ⌜ now (b .exit) ≡ recordOctets (field (now (b .entry)) 0 1) (withHolds (inPhase (current time (lineFrom (now (b .entry)))) phase) (take n list)) ⌝ }

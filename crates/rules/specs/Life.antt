@@ -11,7 +11,6 @@ use Rattle.address.specs.declared.Address.{Address}
 use Rattle.address.specs.declared.End.the-variants.{At, Never}
 use Rattle.address.specs.declared.Hold.{Hold}
 use Rattle.children.specs.Children.{isOther}
-use Rattle.children.specs.declared.Child.{Child}
 use Rattle.config.specs.Settings.{Settings, configOf}
 use Rattle.octets.specs.Part.{part}
 use Rattle.eap.specs.Packet.{readPacket}

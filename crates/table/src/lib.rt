@@ -133,7 +133,7 @@ pub fn read_slot(table: &[u8], i: usize) -> Record
     read_record(part(table, RECORD * i, RECORD))
 }
 
-// The line of a used record, of which the phase is known alone.
+// The line of a used record, of which only the phase is known.
 pub fn unlisted_at(table: &[u8], i: usize) -> Record
     requires { ⌜ UsedAt (now table) i ⌝ }
     ensures { λ r. ⌜ lineOf r ≡ unheld (lineFrom (slot (now (table .entry)) i) .phase) [] ⌝ }
@@ -142,7 +142,7 @@ pub fn unlisted_at(table: &[u8], i: usize) -> Record
     read_unlisted(part(table, RECORD * i, RECORD))
 }
 
-// The line of a used record, of which the phase and the children are known alone.
+// The line of a used record, of which only the phase and the children are known.
 pub fn unheld_at(table: &[u8], i: usize) -> Record
     requires { ⌜ UsedAt (now table) i ⌝ }
     ensures { λ r. ⌜ lineOf r ≡ unheld (lineFrom (slot (now (table .entry)) i) .phase) (lineFrom (slot (now (table .entry)) i) .children) ⌝ }
@@ -160,7 +160,7 @@ pub fn keep_at(table: &mut [u8], i: usize, time: u64, phase: Phase)
     keep(&mut table[at..at + RECORD], time, phase);
 }
 
-// The same, with the first n of a list as its children.
+// Stores time and phase like `keep_at`, and the first n of a list as the children.
 pub fn keep_tunnels_at(
     table: &mut [u8],
     i: usize,
@@ -176,7 +176,7 @@ pub fn keep_tunnels_at(
     keep_tunnels(&mut table[at..at + RECORD], time, phase, list, n);
 }
 
-// The same, with the first n of a list as its holds.
+// Stores time and phase like `keep_at`, and the first n of a list as the holds.
 pub fn keep_held_at(
     table: &mut [u8],
     i: usize,

@@ -1,6 +1,6 @@
 -- `children::fit_at` meets its contract. The loop's invariant: the children that are left decide.
 use Prim.Native.Nat.{ℕ, _+_, _-_, _*_, _≤_, _<_}
-use mathlib.Core.Bool.{Bool, true, _&&_}
+use mathlib.Core.Bool.{Bool, _&&_}
 use mathlib.Core.List.{List}
 use mathlib.Core.Path.{_≡_, sym, ap, _∙_}
 use native.Mathlib.Nat.{sub-zero}
@@ -9,7 +9,7 @@ use borrow.Author.Tests.{not-true, not-false}
 use borrow.Author.Needs.{needs}
 use Rattle.octets.specs.Row.{row}
 use Rattle.octets.specs.Search.{allOf}
-use Rattle.octets.proofs.Rows.{row-more, row-done}
+use Rattle.octets.proofs.Rows.{rest-more, rest-none}
 use Rattle.children.specs.declared.Child.{Child}
 use Rattle.children.specs.Children.{childFits, childFrom, childIn, childrenFrom}
 use Rattle.children.proofs.fit_at.Statement.{statement}
@@ -28,15 +28,8 @@ abbrev μ-loop : tie.MeasureT-loop
 module _ (l : List ℕ) (at n i : ℕ) where
   -- the next child decides first
   next : i < n → {c : Child} {r t : Bool} → c ≡ childFrom l (at + 5 * i) → r ≡ childFits c → r ≡ t → Left l at n i ≡ t && Left l at n (i + 1)
-  unfolding allOf childIn
-  next h {t = t} read fits test =
-      let passes : childFits (childFrom l (at + 5 * i)) ≡ t = ap childFits (sym read) ∙ sym fits ∙ test in
-      rw (row-more (childIn l at) i n h, passes)
-
-  -- none is left
-  done : n ≤ i → Left l at n i ≡ true
-  unfolding allOf
-  done h = rw (row-done (childIn l at) i n h)
+  unfolding childIn
+  next h {t = t} read fits test = rest-more (childIn l at) childFits n i h t (ap childFits (sym read) ∙ sym fits ∙ test)
 
 loop-holds : tie.Need-loop-holds Inv-loop μ-loop
 unfolding childrenFrom
@@ -73,7 +66,7 @@ loop-again c =
     (search needs, at-loop .inv .1 ∙ next (now (a .b)) (a .at) (a .n) (at-loop .i) (c .before .before .before .loop-test .taken) (c .before .before .read-child .ensures) (c .before .child-fits .ensures) (not-false _ (c .if1 .left)))
 
 returns-2 : tie.Need-returns-2 Inv-loop μ-loop
-returns-2 c = sym (c .before .loop .inv .1 ∙ done _ _ _ _ (c .loop-test .left))
+returns-2 c = sym (c .before .loop .inv .1 ∙ rest-none _ _ _ _ (c .loop-test .left))
 
 pub fit-at-spec : {M : Type 1} → statement M
 fit-at-spec =

@@ -1,5 +1,5 @@
 -- `holds::stand_in_force` meets its contract. The loop's invariant: the holds passed have addresses, and the ends of those that are left decide.
-use Prim.Native.Nat.{ℕ, _+_, _-_, _≤_, _<_}
+use Prim.Native.Nat.{ℕ, _+_, _-_, _≤_}
 use mathlib.Core.Bool.{Bool, true, false, _&&_}
 use mathlib.Core.List.{List}
 use mathlib.Core.Path.{_≡_, refl, sym, ap, _∙_, subst}
@@ -11,7 +11,7 @@ use borrow.Author.Needs.{needs}
 use Rattle.octets.specs.Part.{zerosAt}
 use Rattle.octets.specs.Row.{row}
 use Rattle.octets.specs.Search.{all, allOf}
-use Rattle.octets.proofs.Rows.{row-done, row-more}
+use Rattle.octets.proofs.Rows.{rest-more, rest-none}
 use Rattle.octets.proofs.Search.{all-more, and-false}
 use Rattle.holds.specs.Holds.{endsAfter, hasAddress, holdFrom, holdIn, holdsFrom, holdsWritten}
 use Rattle.holds.proofs.Written.{all-addresses, no-address, too-many}
@@ -19,7 +19,7 @@ use Rattle.holds.proofs.stand_in_force.Statement.{statement}
 use Rattle.holds.proofs.stand_in_force.Tie as tie
 
 -- the holds from number i on end after a time
-unfoldable left : List ℕ → ℕ → ℕ → ℕ → ℕ → Bool
+abbrev left : List ℕ → ℕ → ℕ → ℕ → ℕ → Bool
 left l at n time i = allOf (endsAfter time) (row (holdIn l at) i (n - i))
 
 abbrev Inv-loop : tie.InvT-loop
@@ -36,25 +36,15 @@ with-true false t e = refl
 module _ (l : List ℕ) (at n time : ℕ) where
   -- at the start all of them are left
   all-left : allOf (endsAfter time) (holdsFrom l at n) ≡ left l at n time 0
-  unfolding left holdsFrom
+  unfolding holdsFrom
   all-left = ap (λ (k : ℕ). allOf (endsAfter time) (row (holdIn l at) 0 k)) (sym (sub-zero n))
-
-  -- the next one decides, and those behind it
-  left-more : (i : ℕ) → i < n → (t : Bool) → endsAfter time (holdIn l at i) ≡ t → left l at n time i ≡ t && left l at n time (i + 1)
-  unfolding left allOf
-  left-more i h t e = rw (row-more (holdIn l at) i n h, e)
-
-  -- none is left
-  left-none : (i : ℕ) → n ≤ i → left l at n time i ≡ true
-  unfolding left allOf
-  left-none i h = rw (row-done (holdIn l at) i n h)
 
   -- without holds there are zeros alone
   no-holds : n ≡ 0 → zerosAt l at 176 ≡ holdsWritten l at n && allOf (endsAfter time) (holdsFrom l at n)
   unfolding all
   no-holds e =
       ap (λ (k : ℕ). zerosAt l k 176) (sym (add-zero at)) ∙ subst (λ (k : ℕ). zerosAt l (at + 0) 176 ≡ holdsWritten l at k) (sym e) (all-addresses l at 0 (omega arith) refl)
-      ∙ with-true (holdsWritten l at n) (allOf (endsAfter time) (holdsFrom l at n)) (all-left ∙ left-none 0 (omega arith))
+      ∙ with-true (holdsWritten l at n) (allOf (endsAfter time) (holdsFrom l at n)) (all-left ∙ rest-none (holdIn l at) (endsAfter time) n 0 (omega arith))
 
 zeros-at-requires : tie.Need-zeros-at-requires Inv-loop μ-loop
 zeros-at-requires c κs = search needs
@@ -104,7 +94,7 @@ returns-4 c =
     let a = c .before .before .before .before .before .before .before .before .before .args in
     let at-loop = c .before .before .before .before .before .loop in
     sym (and-false (holdsWritten (now (a .b)) (a .at) (a .n)) (allOf (endsAfter (a .time)) (holdsFrom (now (a .b)) (a .at) (a .n)))
-    (at-loop .inv .2 ∙ left-more (now (a .b)) (a .at) (a .n) (a .time) (at-loop .i) (c .before .before .before .before .loop-test .taken) false (sym (c .before .ends-at-after .ensures) ∙ not-true _ (c .if4 .taken))))
+    (at-loop .inv .2 ∙ rest-more (holdIn (now (a .b)) (a .at)) (endsAfter (a .time)) (a .n) (at-loop .i) (c .before .before .before .before .loop-test .taken) false (sym (c .before .ends-at-after .ensures) ∙ not-true _ (c .if4 .taken))))
 
 add-i : tie.Need-add-i Inv-loop μ-loop
 add-i c = search needs
@@ -119,7 +109,7 @@ loop-again c =
     let at-loop = c .before .before .before .before .before .loop in (
       search needs,
       all-more (at-loop .i) (hasAddress (now (a .b)) (a .at)) (at-loop .inv .1) (sym (c .before .before .before .is-address .ensures) ∙ not-false _ (c .before .before .if3 .left)),
-      at-loop .inv .2 ∙ left-more (now (a .b)) (a .at) (a .n) (a .time) (at-loop .i) (c .before .before .before .before .loop-test .taken) true (sym (c .before .ends-at-after .ensures) ∙ not-false _ (c .if4 .left)),
+      at-loop .inv .2 ∙ rest-more (holdIn (now (a .b)) (a .at)) (endsAfter (a .time)) (a .n) (at-loop .i) (c .before .before .before .before .loop-test .taken) true (sym (c .before .ends-at-after .ensures) ∙ not-false _ (c .if4 .left)),
     )
 
 mul-zeros-at : tie.Need-mul-zeros-at Inv-loop μ-loop
@@ -143,7 +133,7 @@ returns-5 c =
     let at-loop = c .before .before .loop in
     let whole : at-loop .i ≡ a .n = omega arith in
     c .zeros-at2 .ensures ∙ all-addresses (now (a .b)) (a .at) (a .n) (c .before .before .before .if2 .left) (subst (λ (k : ℕ). all k (hasAddress (now (a .b)) (a .at)) ≡ true) whole (at-loop .inv .1))
-    ∙ with-true (holdsWritten (now (a .b)) (a .at) (a .n)) (allOf (endsAfter (a .time)) (holdsFrom (now (a .b)) (a .at) (a .n))) (at-loop .inv .2 ∙ left-none (now (a .b)) (a .at) (a .n) (a .time) (at-loop .i) (c .before .loop-test .left))
+    ∙ with-true (holdsWritten (now (a .b)) (a .at) (a .n)) (allOf (endsAfter (a .time)) (holdsFrom (now (a .b)) (a .at) (a .n))) (at-loop .inv .2 ∙ rest-none (holdIn (now (a .b)) (a .at)) (endsAfter (a .time)) (a .n) (at-loop .i) (c .before .loop-test .left))
 
 pub stand-in-force-spec : {M : Type 1} → statement M
 stand-in-force-spec =

@@ -1,5 +1,4 @@
 -- `record::keep` meets its contract: the time and the phase are written, and the holds that are left where one has ended.
-use mathlib.Core.Path.{sym, _∙_}
 use native.Mathlib.Omega.{arith}
 use denote.Ref.{now}
 use borrow.Author.Needs.{needs}

@@ -1,6 +1,6 @@
 -- `record::put_fresh` meets its contract: behind the pair there are zeros alone.
 use Prim.Native.Nat.{ℕ}
-use mathlib.Core.List.{[], _++_}
+use mathlib.Core.List.{[]}
 use mathlib.Core.Path.{_≡_, refl, ap, _∙_}
 use native.Mathlib.Omega.{arith}
 use borrow.Author.Needs.{needs}

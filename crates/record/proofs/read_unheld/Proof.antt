@@ -1,12 +1,10 @@
 -- `record::read_unheld` meets its contract: the phase and the children are read at their places.
-use mathlib.Core.List.{List}
 use mathlib.Core.Path.{ap, ap₂, _∙_}
 use denote.Ref.{now}
 use borrow.Author.Needs.{needs}
 use Rattle.children.specs.Children.{childrenFrom}
 use Rattle.record.specs.Changes.{unheld}
 use Rattle.record.specs.Octets.{childrenPlace, lineFrom}
-use Rattle.record.proofs.Lines.{at-most}
 use Rattle.record.proofs.read_unheld.Statement.{statement}
 use Rattle.record.proofs.read_unheld.Tie as tie
 
