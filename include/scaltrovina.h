@@ -203,7 +203,7 @@ typedef struct scal_answer {
     uint64_t version;      /* the IP version of the chosen address, 4 or 6 */
     uint64_t high;         /* its upper 64 bits, 0 in version 4 */
     uint64_t low;          /* its lower 64 bits, in version 4 all of it */
-    uint64_t eap_ended;    /* 1 where an EAP session ended */
+    uint64_t eap_ended;    /* 1 where an error notify or congestion ended an EAP session */
     uint64_t error;        /* the error to hand up, 1 to 16,383 */
     uint64_t written;      /* how many octets of the answer buffer are written: a built name, the response, the listing */
 } scal_answer;
