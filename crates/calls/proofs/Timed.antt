@@ -5,6 +5,7 @@ use mathlib.Core.List.{List, []}
 use mathlib.Core.Path.{_≡_, refl, sym, ap, _∙_}
 use native.Mathlib.Omega.{arith}
 use Rattle.octets.specs.Part.{part, zeros}
+use Rattle.phase.specs.declared.Phase.{Phase}
 use Rattle.record.specs.Changes.{current, inPhase}
 use Rattle.record.specs.Line.{Line, lineOf}
 use Rattle.record.specs.Octets.{lineFrom}
@@ -15,7 +16,8 @@ use Rattle.rules.specs.Refusals.{isShort, leastEventRoom, leastRoom}
 use Rattle.rules.specs.Run.{run}
 use Rattle.step.specs.Laws.{resultBy, storedBy}
 use Rattle.step.specs.Step.{Effect, effect, effectIn}
-use Rattle.step.proofs.Views.{From, kindOf, move, phased, tunnel, withLine}
+use Rattle.rules.proofs.Goes.{phased}
+use Rattle.step.proofs.Views.{From, kindOf, move, tunnel, withLine}
 use Rattle.step.specs.declared.Stepped.{Stepped}
 use Rattle.ike.specs.Events.{eventOf, tunnelEventOf}
 use Rattle.ike.specs.declared.event.IkeEvent.{IkeEvent}
@@ -70,12 +72,14 @@ module _ (tenant line time : ℕ) (e : Event) (short : Bool) (l : List ℕ) (r :
   abbrev own : Line
   own = lineFrom (slot l (r .at))
 
-  -- what the step on a line y answers, and what it leaves where that is put onto another line
-  pub taken : Passes r tenant line time short l → (put : Line → Line) {y z : Line} → From e time (r .pair) l own y put → z ≡ y → (s : Stepped) (part buffer : List ℕ) → effectIn s part buffer ≡ effect e time z
-      → (n : ℕ) (numbers table : List ℕ) → n ≡ s .refusal → numbers ≡ numbersOf (s .action) → table ≡ storedBy (s .refusal) (r .pair) (put (lineOf (s .line))) l
+  -- what the step on a line y answers, and what it leaves where that is put onto another line, which the stored line is by its phase
+  pub settled : Passes r tenant line time short l → (put : Line → Line) (onto : Phase → Line) {y z : Line} → From e time (r .pair) l own y put → z ≡ y → (s : Stepped) (part buffer : List ℕ)
+      → effectIn s part buffer ≡ effect e time z → put (lineOf (s .line)) ≡ onto (s .line .phase) → {m : Moved} → m ≡ record { refusal = s .refusal; phase = s .line .phase; action = s .action }
+      → (n : ℕ) (numbers table : List ℕ) → n ≡ m .refusal → numbers ≡ numbersOf (m .action) → table ≡ storedBy (m .refusal) (r .pair) (onto (m .phase)) l
       → returned n numbers part buffer table ≡ run (timed tenant line time e) l
-  taken passes put from read s part buffer is n numbers table number action stored =
-      rw (number, action, stored)
+  settled passes put onto from read s part buffer is same moves n numbers table number action stored =
+      let left = stored ∙ ap (λ (m : Moved). storedBy (m .refusal) (r .pair) (onto (m .phase)) l) moves ∙ ap (λ (x : Line). storedBy (s .refusal) (r .pair) x l) (sym same) in
+      rw (number ∙ ap (λ (m : Moved). m .refusal) moves, action ∙ ap (λ (m : Moved). numbersOf (m .action)) moves, left)
       (by-step s part buffer (r .pair) l put ∙ ap (λ (f : Effect). resultBy (withLine f (put (f .line))) (r .pair) l) (is ∙ ap (effect e time) read) ∙ sym from
       ∙ sym (passes .result-is e room-is))
 
@@ -85,9 +89,7 @@ module _ (tenant line time : ℕ) (e : Event) (short : Bool) (l : List ℕ) (r :
       → n ≡ m .refusal → numbers ≡ numbersOf (m .action) → table ≡ storedBy (m .refusal) (r .pair) (inPhase (current time own) (m .phase)) l
       → returned n numbers part buffer table ≡ run (timed tenant line time e) l
   unfolding lineOf
-  moved passes from read s part buffer is moves n numbers table number action stored =
-      taken passes (phased (current time own)) from read s part buffer is n numbers table (number ∙ ap (λ (m : Moved). m .refusal) moves) (action ∙ ap (λ (m : Moved). numbersOf (m .action)) moves)
-      (stored ∙ ap (λ (m : Moved). storedBy (m .refusal) (r .pair) (inPhase (current time own) (m .phase)) l) moves)
+  moved passes from read s part buffer is = settled passes (phased (current time own)) (inPhase (current time own)) from read s part buffer is refl
 
   -- the same where a part is returned: it is the one that the numbers name, within the lent octets
   module _ (text name packet : List ℕ) where

@@ -7,7 +7,7 @@ use frame::move_of;
 use frame::settle;
 use network::NAME_ROOM;
 use rules::StartNumbers;
-use table::read_slot;
+use table::childless_at;
 ghost use mathlib.Core.List.{[]};
 ghost use mathlib.Core.Path.{_≡_};
 ghost use lib.ListN.{length};
@@ -47,7 +47,7 @@ pub fn start(
         registered_mnc,
         version,
     };
-    let found = read_slot(table, entered.at);
+    let found = childless_at(table, entered.at);
     let stepped = attempt::start(found, time, given, text, name);
     settle(table, entered, time, move_of(stepped), answer)
 }
@@ -71,7 +71,7 @@ pub fn country(
     if entered.refusal != 0 {
         return refuse(entered.refusal, name, answer);
     }
-    let found = read_slot(table, entered.at);
+    let found = childless_at(table, entered.at);
     let stepped = country_answer(found, time, replied, networks, text, name);
     settle(table, entered, time, move_of(stepped), answer)
 }
@@ -92,7 +92,7 @@ pub fn address(
         *answer = [0; 12];
         return entered.refusal;
     }
-    let found = read_slot(table, entered.at);
+    let found = childless_at(table, entered.at);
     let stepped = address_answer(found, time, addresses);
     settle(table, entered, time, move_of(stepped), answer)
 }

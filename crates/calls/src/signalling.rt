@@ -9,7 +9,7 @@ use ike::event::IkeEvent;
 use ike::event::step_of;
 use response::REPLY_ROOM;
 use session::eap_packet;
-use table::read_slot;
+use table::childless_at;
 use table::unlisted_at;
 ghost use mathlib.Core.List.{[]};
 ghost use mathlib.Core.Path.{_≡_};
@@ -59,9 +59,19 @@ pub fn congested(
         *answer = [0; 12];
         return entered.refusal;
     }
-    let found = read_slot(table, entered.at);
+    let found = childless_at(table, entered.at);
     let stepped = congestion(found, time, authenticated, timer);
-    settle_held(table, entered, time, stepped, answer)
+    let line = stepped.line;
+    let holds = line.holds;
+    settle_held(
+        table,
+        entered,
+        time,
+        move_of(stepped),
+        holds,
+        line.hold_count,
+        answer,
+    )
 }
 
 // Takes an EAP packet: Start, a NAS request or Success.

@@ -1,5 +1,6 @@
 // The tunnels of a live line.
 use frame::enter;
+use frame::move_of;
 use frame::settle_tunnels;
 use ike::event::TunnelEvent;
 use ike::event::tunnel_step_of;
@@ -29,5 +30,15 @@ pub fn on_tunnel(
     }
     let found = unheld_at(table, entered.at);
     let stepped = tunnel_step_of(found, time, event);
-    settle_tunnels(table, entered, time, stepped, answer)
+    let line = stepped.line;
+    let children = line.children;
+    settle_tunnels(
+        table,
+        entered,
+        time,
+        move_of(stepped),
+        children,
+        line.child_count,
+        answer,
+    )
 }

@@ -204,7 +204,7 @@ pub fn without(list: [Child; CHILDREN], n: usize, spi: u64) -> Children
     let mut count = 0;
     let mut i = 0;
     while i < n {
-        let child = list[i];
+        let child = kept[i];
         if spi != child.spi {
             kept[count] = child;
             count += 1;

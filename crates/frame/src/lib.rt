@@ -2,6 +2,10 @@
 pub mod answer;
 
 use crate::answer::numbers;
+use address::HOLDS;
+use address::Hold;
+use children::CHILDREN;
+use children::Child;
 use phase::Phase;
 use record::LINES;
 use record::TENANTS;
@@ -16,8 +20,11 @@ use table::keep_tunnels_at;
 use table::record_of;
 use table::time_at;
 ghost use mathlib.Core.Path.{_≡_};
+ghost use Prim.Native.Nat.{_≤_};
+ghost use lib.ListN.{take};
 ghost use Rattle.octets.specs.Refusal.{refusal};
-ghost use Rattle.record.specs.Line.{lineOf, InArrays};
+ghost use Rattle.address.specs.Address.{mostHolds};
+ghost use Rattle.children.specs.Children.{mostChildren};
 ghost use Rattle.record.specs.Changes.{current, inPhase, withChildren, withHolds};
 ghost use Rattle.record.specs.Octets.{lineFrom};
 ghost use Rattle.table.specs.Table.{slot};
@@ -126,52 +133,52 @@ pub fn settle(
     0
 }
 
-// Stores time, phase and children that a step leaves, unless it was refused, and answers.
+// Stores what `settle` does and, as the children, the first n of a list.
 pub fn settle_tunnels(
     table: &mut [u8],
     entered: Entered,
     time: u64,
-    stepped: Stepped,
+    stepped: Moved,
+    list: [Child; CHILDREN],
+    n: usize,
     answer: &mut [u64; 12],
 ) -> u64
-    requires { ⌜ Stands entered (now table) × InArrays (stepped .line) ⌝ }
+    requires { ⌜ Stands entered (now table) × (n ≤ mostChildren) ⌝ }
     ensures { λ r. ⌜ r ≡ stepped .refusal ⌝ }
     ensures { λ _. ⌜ now (answer .exit) ≡ numbersOf (stepped .action) ⌝ }
-    ensures { λ _. ⌜ now (table .exit) ≡ storedBy (stepped .refusal) (entered .pair) (withChildren (inPhase (current time (lineFrom (slot (now (table .entry)) (entered .at)))) (stepped .line .phase)) (lineOf (stepped .line) .children)) (now (table .entry)) ⌝ }
+    ensures { λ _. ⌜ now (table .exit) ≡ storedBy (stepped .refusal) (entered .pair) (withChildren (inPhase (current time (lineFrom (slot (now (table .entry)) (entered .at)))) (stepped .phase)) (take n list)) (now (table .entry)) ⌝ }
 {
     let action = stepped.action;
     *answer = numbers(action);
     if stepped.refusal != 0 {
         return stepped.refusal;
     }
-    let line = stepped.line;
-    let phase = line.phase;
-    let children = line.children;
-    keep_tunnels_at(table, entered.at, time, phase, children, line.child_count);
+    let phase = stepped.phase;
+    keep_tunnels_at(table, entered.at, time, phase, list, n);
     0
 }
 
-// Stores time, phase and holds that a step leaves, unless it was refused, and answers.
+// Stores what `settle` does and, as the holds, the first n of a list.
 pub fn settle_held(
     table: &mut [u8],
     entered: Entered,
     time: u64,
-    stepped: Stepped,
+    stepped: Moved,
+    list: [Hold; HOLDS],
+    n: usize,
     answer: &mut [u64; 12],
 ) -> u64
-    requires { ⌜ Stands entered (now table) × InArrays (stepped .line) ⌝ }
+    requires { ⌜ Stands entered (now table) × (n ≤ mostHolds) ⌝ }
     ensures { λ r. ⌜ r ≡ stepped .refusal ⌝ }
     ensures { λ _. ⌜ now (answer .exit) ≡ numbersOf (stepped .action) ⌝ }
-    ensures { λ _. ⌜ now (table .exit) ≡ storedBy (stepped .refusal) (entered .pair) (withHolds (inPhase (current time (lineFrom (slot (now (table .entry)) (entered .at)))) (stepped .line .phase)) (lineOf (stepped .line) .holds)) (now (table .entry)) ⌝ }
+    ensures { λ _. ⌜ now (table .exit) ≡ storedBy (stepped .refusal) (entered .pair) (withHolds (inPhase (current time (lineFrom (slot (now (table .entry)) (entered .at)))) (stepped .phase)) (take n list)) (now (table .entry)) ⌝ }
 {
     let action = stepped.action;
     *answer = numbers(action);
     if stepped.refusal != 0 {
         return stepped.refusal;
     }
-    let line = stepped.line;
-    let phase = line.phase;
-    let holds = line.holds;
-    keep_held_at(table, entered.at, time, phase, holds, line.hold_count);
+    let phase = stepped.phase;
+    keep_held_at(table, entered.at, time, phase, list, n);
     0
 }

@@ -209,14 +209,11 @@ pub fn in_force(list: [Hold; HOLDS], n: usize, time: u64) -> Holds
     ensures { λ r. ⌜ take (r .count) (r .list) ≡ only (endsAfter time) (take n list) ⌝ }
     ensures { λ r. ⌜ r .count ≤ n ⌝ }
 {
-    if n == 0 {
-        return Holds { list, count: 0 };
-    }
     let mut kept = list;
     let mut count = 0;
     let mut i = 0;
     while i < n {
-        let hold = list[i];
+        let hold = kept[i];
         let end = hold.end;
         if ends_after(end, time) {
             kept[count] = hold;

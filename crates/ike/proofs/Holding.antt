@@ -21,7 +21,7 @@ use Rattle.phase.specs.declared.Phase.{Phase}
 use Rattle.phase.specs.declared.Phase.the-variants.{Idle, Country, Name, Chosen, Init, Auth, Eap, Sure, Live}
 use Rattle.record.specs.Changes.{current, inPhase}
 use Rattle.record.specs.Line.{Line}
-use Rattle.record.specs.Sound.{holdsSound, lineSound, mostBusyHolds}
+use Rattle.record.specs.Sound.{holdsSound, mostBusyHolds}
 use Rattle.rules.specs.Life.{becomes, chosenHold, congested, ended, timerHold}
 use Rattle.rules.specs.Phases.{underway}
 use Rattle.rules.specs.declared.Action.the-variants.{Released}
@@ -40,8 +40,8 @@ module _ (time : ℕ) (x found : Line) (is-found : found ≡ current time x) whe
   time-stored = ap (λ (y : Line). y .time) is-found
 
   -- there is room for one hold more unless it is idle
-  pub has-room : lineSound x ≡ true → isIn Stage.idle (found .phase) ≡ false → length (found .holds) < mostHolds
-  unfolding lineSound holdsSound current
+  pub has-room : holdsSound (x .time) (x .phase) (x .holds) ≡ true → isIn Stage.idle (found .phase) ≡ false → length (found .holds) < mostHolds
+  unfolding holdsSound current
   has-room sound busy =
       let room : isIn Stage.idle (x .phase) || leb (length (x .holds)) mostBusyHolds ≡ true = search (and-left, and-right) in
       let not-idle = ap (λ (y : Line). isIn Stage.idle (y .phase)) (sym is-found) ∙ busy in

@@ -24,7 +24,7 @@ ghost use lib.ListN.{length};
 ghost use Rattle.address.specs.Address.{mostHolds};
 ghost use Rattle.timer.specs.Timer.{timerOf};
 ghost use Rattle.record.specs.Line.{lineOf, InArrays};
-ghost use Rattle.record.specs.Sound.{lineSound};
+ghost use Rattle.record.specs.Sound.{holdsSound};
 ghost use Rattle.rules.specs.Call.{congestion, lastTime};
 ghost use Rattle.rules.specs.Life.{timerHold};
 ghost use Rattle.step.specs.Step.{effect, effectIn};
@@ -79,7 +79,7 @@ fn held(line: Record, a: Address, octet: u8) -> Record
 
 // Congestion: the line is released, and the chosen address is held by the timer.
 pub fn congestion(line: Record, time: u64, authenticated: u64, timer: u64) -> Stepped
-    requires { ⌜ InArrays line × (lineSound (lineOf line) ≡ true) ⌝ }
+    requires { ⌜ InArrays line × (holdsSound (line .time) (line .phase) (lineOf line .holds) ≡ true) ⌝ }
     ensures { λ r. ⌜ effectIn r [] [] ≡ effect (congestion authenticated timer) time (lineOf line) ⌝ }
     ensures { λ r. ⌜ InArrays (r .line) ⌝ }
 {

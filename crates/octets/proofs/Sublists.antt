@@ -7,7 +7,7 @@ use native.Mathlib.Nat.{le-refl, le-suc}
 use native.Mathlib.Numerals.{add-one}
 use native.Mathlib.Omega.{arith}
 use lib.ListN.{length, getD, set, take, length-set}
-use lib.Seq.{take-suc, take-suc-set}
+use lib.Seq.{getD-set-other, take-suc, take-suc-set}
 use borrow.Author.Tests.{not-true}
 use Rattle.octets.specs.Row.{keep, only}
 use Rattle.octets.specs.Search.{allOf, anyOf, distinct}
@@ -139,45 +139,48 @@ module _ {A B : Type 0} (f : A → B) where
   distinct-map alike [] = refl
   distinct-map alike (x ∷ l) = ap₂ (λ (s t : Bool). not s && t) (any-map (alike (f x)) l) (distinct-map alike l)
 
--- those of the first i elements of a list that pass stand in their order at the front of another list, which is as long
+-- those of the first i elements of a list that pass stand in their order at the front, and those behind the first i are as they were
 pub record Kept {A : Type 0} (p : A → Bool) (l : List A) (i : ℕ) (kept : List A) (count : ℕ) : Type 0 where
   pub few : count ≤ i
   pub long : length kept ≡ length l
   pub front : take count kept ≡ only p (take i l)
+  pub behind : (j : ℕ) (d : A) → i ≤ j → getD kept j d ≡ getD l j d
 
 module _ {A : Type 0} {p : A → Bool} {l : List A} where
   -- none is passed yet
   pub kept-none : Kept p l 0 l 0
   unfolding only
-  kept-none = record { few = le-refl 0; long = refl; front = refl }
+  kept-none = record { few = le-refl 0; long = refl; front = refl; behind = λ j d h. refl }
 
   -- all n are passed
   pub kept-whole : {i n count : ℕ} {kept : List A} → i ≡ n → Kept p l i kept count → (take count kept ≡ only p (take n l)) × (count ≤ n)
   kept-whole {i} {n} {count} {kept} e k = (subst (λ (j : ℕ). take count kept ≡ only p (take j l)) e (k .front), omega arith)
 
   module _ {i count : ℕ} {kept : List A} (d : A) (k : Kept p l i kept count) (inside : i < length l) where
+    abbrev x : A
+    x = getD kept i d
+
+    next : only p (take i l) ++ keep (p x) x [] ≡ only p (take (i + 1) l)
+    next = ap (λ (y : A). only p (take i l) ++ keep (p y) y []) (k .behind i d (le-refl i)) ∙ sym (only-next p l i d inside)
+
     -- the next element passes and is stored behind them
-    pub kept-more : {count′ : ℕ} {kept′ : List A} → p (getD l i d) ≡ true → kept′ ≡ set kept count (getD l i d) → count′ ≡ count + 1
-        → Kept p l (i + 1) kept′ count′
+    pub kept-more : {count′ : ℕ} {kept′ : List A} → p x ≡ true → kept′ ≡ set kept count x → count′ ≡ count + 1 → Kept p l (i + 1) kept′ count′
     unfolding keep
     kept-more passes stored more =
-        let x = getD l i d in
         let room : count < length kept = omega arith in
         record {
           few = omega arith;
           long = ap length stored ∙ length-set kept count x ∙ k .long;
-          front = ap₂ take more stored ∙ stored-behind kept count x room
-              ∙ ap₂ (λ (m : List A) (t : Bool). m ++ keep t x []) (k .front) (sym passes) ∙ sym (only-next p l i d inside);
+          front = ap₂ take more stored ∙ stored-behind kept count x room ∙ ap₂ (λ (m : List A) (t : Bool). m ++ keep t x []) (k .front) (sym passes) ∙ next;
+          behind = λ j e h. ap (λ (m : List A). getD m j e) stored ∙ getD-set-other kept count j x e (λ q. omega (arith, q)) ∙ k .behind j e (omega arith);
         }
 
     -- the next element fails
-    pub kept-same : {count′ : ℕ} {kept′ : List A} → p (getD l i d) ≡ false → kept′ ≡ kept → count′ ≡ count → Kept p l (i + 1) kept′ count′
+    pub kept-same : {count′ : ℕ} {kept′ : List A} → p x ≡ false → kept′ ≡ kept → count′ ≡ count → Kept p l (i + 1) kept′ count′
     unfolding keep
-    kept-same fails stored same =
-        let x = getD l i d in
-        record {
-          few = omega arith;
-          long = ap length stored ∙ k .long;
-          front = ap₂ take same stored ∙ k .front ∙ sym (append-nil (only p (take i l)))
-              ∙ ap (λ (t : Bool). only p (take i l) ++ keep t x []) (sym fails) ∙ sym (only-next p l i d inside);
-        }
+    kept-same fails stored same = record {
+      few = omega arith;
+      long = ap length stored ∙ k .long;
+      front = ap₂ take same stored ∙ k .front ∙ sym (append-nil (only p (take i l))) ∙ ap (λ (t : Bool). only p (take i l) ++ keep t x []) (sym fails) ∙ next;
+      behind = λ j e h. ap (λ (m : List A). getD m j e) stored ∙ k .behind j e (omega arith);
+    }

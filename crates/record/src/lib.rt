@@ -71,24 +71,22 @@ pub struct Record {
     pub child_count: usize,
 }
 
-// The line in a record's octets.
-pub fn read_record(b: &[u8]) -> Record
-    requires { ⌜ (recordLength ≤ length (now b)) × (field (now b) holdCountPlace 1 ≤ mostHolds) × (field (now b) childCountPlace 1 ≤ mostChildren) ⌝ }
-    ensures { λ r. ⌜ lineOf r ≡ lineFrom (now (b .entry)) ⌝ }
+// The line in a record's octets without its children.
+pub fn read_childless(b: &[u8]) -> Record
+    requires { ⌜ (recordLength ≤ length (now b)) × (field (now b) holdCountPlace 1 ≤ mostHolds) ⌝ }
+    ensures { λ r. ⌜ lineOf r ≡ withChildren (lineFrom (now (b .entry))) [] ⌝ }
     ensures { λ r. ⌜ InArrays r ⌝ }
 {
     let hold_count = get(b, HOLD_COUNT_AT, 1) as usize;
-    let child_count = get(b, CHILD_COUNT_AT, 1) as usize;
     let holds = read_holds(b, HOLDS_AT, hold_count);
-    let children = read_children(b, CHILDREN_AT, child_count);
     let phase = read_phase(b, PHASE_AT);
     Record {
         time: get(b, TIME_AT, 4),
         phase,
         holds,
         hold_count,
-        children,
-        child_count,
+        children: [Child { spi: 0, session: 0 }; CHILDREN],
+        child_count: 0,
     }
 }
 

@@ -10,10 +10,9 @@ use Rattle.address.specs.declared.End.the-variants.{At, Never}
 use Rattle.address.specs.declared.Hold.{Hold}
 use Rattle.config.specs.Settings.{configOf}
 use Rattle.eap.specs.Packet.{readPacket}
-use Rattle.eap.specs.declared.Packet.{Packet}
-use Rattle.eap.specs.declared.Packet.the-variants.{Start, NasRequest, Success, NasResponse, Stop, Other}
 use Rattle.lists.specs.Lists.{addressesIn, networksIn}
 use Rattle.phase.specs.Chosen.{chosen}
+use Rattle.phase.specs.declared.Phase.{Phase}
 use Rattle.record.specs.Changes.{current, inPhase, withChildren}
 use Rattle.record.specs.Line.{Line}
 use Rattle.selection.specs.Selection as Selection
@@ -22,10 +21,10 @@ use Rattle.timer.specs.declared.Timer.the-variants as Timer
 use Rattle.rules.specs.After.{After, childrenAfter, congestionHold, holdAdded}
 use Rattle.rules.specs.Call.{Event, start, country, address, begin, init, eap, reply, final, error, congestion, give-up, child-made, child-deleted, ike-delete, timed, factsOf}
 use Rattle.rules.specs.Claims.{Timed, lineIn}
-use Rattle.rules.specs.Life.{chosenHold, congested, finished, goes, keeps, outcome, packetTaken, timerHold}
+use Rattle.rules.specs.Life.{Outcome, chosenHold, congested, goes, keeps, outcome, timerHold}
 use Rattle.rules.specs.Phases.{factsIn, owed, turnIn}
 use Rattle.rules.specs.Run.{run}
-use Rattle.rules.proofs.Goes.{addressed-goes, answered-goes, replied-goes, started-goes}
+use Rattle.rules.proofs.Goes.{addressed-goes, answered-goes, finished-goes, packet-goes, replied-goes, started-goes}
 use Rattle.rules.proofs.Timed.{timed-run}
 
 -- the timer octet sets the hold that its unit and count say
@@ -51,48 +50,37 @@ record Step (e : Event) (x y : Line) : Type 0 where
 
 module _ (x : Line) where
   -- an event that changes only the phase
-  by-phase : (e : Event) → outcome e x .line ≡ inPhase x (outcome e x .line .phase) → holdAdded e (x .time) (x .phase) ≡ [] → childrenAfter e (x .children) ≡ x .children
+  by-phase : (e : Event) (p : Phase) → outcome e x .line ≡ inPhase x p → holdAdded e (x .time) (x .phase) ≡ [] → childrenAfter e (x .children) ≡ x .children
       → Step e x (outcome e x .line)
   unfolding inPhase
-  by-phase e q adds same = record {
+  by-phase e p q adds same = record {
     time = ap (λ (z : Line). z .time) q;
     holds = ap (λ (z : Line). z .holds) q ∙ sym (ap (λ (hs : List Hold). x .holds ++ hs) adds ∙ append-nil (x .holds));
     children = ap (λ (z : Line). z .children) q ∙ sym same;
   }
 
-  packet-phase : (packet : List ℕ) (p : Packet) → packetTaken x packet p .line ≡ inPhase x (packetTaken x packet p .line .phase)
-  unfolding packetTaken keeps goes inPhase
-  packet-phase packet (Start i) = refl
-  packet-phase packet (NasRequest i at n) = refl
-  packet-phase packet (Success i) = refl
-  packet-phase packet (NasResponse i p m at n) = refl
-  packet-phase packet (Stop i) = refl
-  packet-phase packet Other = refl
-
-  finished-phase : (b : Bool) → finished x b .line ≡ inPhase x (finished x b .line .phase)
-  unfolding finished keeps goes inPhase
-  finished-phase true = refl
-  finished-phase false = refl
+  line-is : {o o′ : Outcome} → o ≡ o′ → o .line ≡ o′ .line
+  line-is = ap (λ (o : Outcome). o .line)
 
   -- one clause for each row of the table
   steps : (e : Event) → Step e x (outcome e x .line)
   unfolding outcome holdAdded childrenAfter keeps goes inPhase congested withChildren
-  steps (start g t room) = by-phase (start g t room) (started-goes x (factsOf g) t (configOf t)) refl refl
+  steps (start g t room) = by-phase (start g t room) _ (line-is (started-goes x x (factsOf g) t (configOf t))) refl refl
   steps (country n networks t room) =
-      by-phase (country n networks t room) (answered-goes x (factsIn (x .phase)) (Selection.countryReply (eqb n 1) (networksIn networks)) t (configOf t)) refl refl
-  steps (address list) = by-phase (address list) (addressed-goes x (factsIn (x .phase)) (addressesIn list)) refl refl
-  steps begin = by-phase begin refl refl refl
-  steps init = by-phase init refl refl refl
-  steps (eap packet) = by-phase (eap packet) (packet-phase packet (readPacket packet)) refl refl
-  steps (reply parameters nas room) = by-phase (reply parameters nas room) (replied-goes x parameters nas (owed (turnIn (x .phase)))) refl refl
-  steps (final good) = by-phase (final good) (finished-phase _) refl refl
-  steps (error number) = by-phase (error number) refl refl refl
+      by-phase (country n networks t room) _ (line-is (answered-goes x x (factsIn (x .phase)) (Selection.countryReply (eqb n 1) (networksIn networks)) t (configOf t))) refl refl
+  steps (address list) = by-phase (address list) _ (line-is (addressed-goes x x (factsIn (x .phase)) (addressesIn list))) refl refl
+  steps begin = by-phase begin _ refl refl refl
+  steps init = by-phase init _ refl refl refl
+  steps (eap packet) = by-phase (eap packet) _ (line-is (packet-goes x x packet (readPacket packet))) refl refl
+  steps (reply parameters nas room) = by-phase (reply parameters nas room) _ (line-is (replied-goes x x parameters nas (owed (turnIn (x .phase))))) refl refl
+  steps (final good) = by-phase (final good) _ (line-is (finished-goes x x _)) refl refl
+  steps (error number) = by-phase (error number) _ refl refl refl
   steps (congestion authenticated timer) = record {
     time = refl;
     holds = ap (λ (hs : List Hold). x .holds ++ hs) (timer-hold (x .time) timer (chosen (x .phase)));
     children = refl;
   }
-  steps give-up = by-phase give-up refl refl refl
+  steps give-up = by-phase give-up _ refl refl refl
   steps (child-made spi session) = record { time = refl; holds = sym (append-nil (x .holds)); children = refl }
   steps (child-deleted spi) = record { time = refl; holds = sym (append-nil (x .holds)); children = refl }
   steps ike-delete = record { time = refl; holds = sym (append-nil (x .holds)); children = refl }

@@ -1,23 +1,20 @@
 -- What a timed call returns follows from less than its whole line: most events look at the phase alone, and change only that.
 use Prim.Native.Nat.{ℕ, zero, suc}
-use mathlib.Core.Bool.{Bool, true, false}
-use mathlib.Core.List.{List}
-use mathlib.Core.Option.{Option, none, some}
+use mathlib.Core.Bool.{Bool}
+use mathlib.Core.List.{List, []}
 use mathlib.Core.Path.{_≡_, refl, ap, _∙_, subst}
 use lib.Dec.{ltb}
 use Rattle.octets.specs.Part.{padded}
 use Rattle.octets.specs.Refusal.{Refusal, refusal}
-use Rattle.eap.specs.declared.Packet.{Packet}
-use Rattle.eap.specs.declared.Packet.the-variants.{Start, NasRequest, Success, NasResponse, Stop, Other}
 use Rattle.record.specs.Changes.{current, inPhase, withChildren, withHolds}
 use Rattle.record.specs.Line.{Line}
 use Rattle.rules.specs.Answer.{eventRoom}
 use Rattle.rules.specs.Call.{Event, start, country, address, begin, init, eap, reply, final, error, congestion, give-up, child-made, child-deleted, ike-delete, lastTime}
-use Rattle.rules.specs.Life.{Outcome, congested, finished, goes, keeps, outcome, packetTaken, replied}
+use Rattle.rules.specs.Life.{Outcome, congested, goes, keeps, outcome}
 use Rattle.rules.specs.Refusals.{hasNoRoom, isAllowed, isHeldFull, isOutOfRange, isSpiTaken, refusalsOf}
 use Rattle.rules.specs.Run.{Result}
 use Rattle.rules.specs.View.{fresh}
-use Rattle.rules.proofs.Goes.{OnlyPhase, addressed-goes, answered-goes, started-goes}
+use Rattle.rules.proofs.Goes.{addressed-goes, answered-goes, finished-goes, onto, packet-goes, phased, replied-goes, started-goes}
 use Rattle.step.specs.Laws.{resultBy, storedBy}
 use Rattle.step.specs.Step.{Effect, effect, outcomeBy}
 
@@ -49,18 +46,11 @@ kindOf (child-deleted spi) = tunnel
 kindOf ike-delete = tunnel
 
 -- the line x with what an event makes of a line: its phase, its children too, or its holds too
-abbrev pub phased : Line → Line → Line
-phased x z = inPhase x (z .phase)
-
 abbrev pub tunnelled : Line → Line → Line
 tunnelled x z = withChildren (phased x z) (z .children)
 
 abbrev pub held : Line → Line → Line
 held x z = withHolds (phased x z) (z .holds)
-
--- an outcome with another line
-abbrev onto : (Line → Line) → Outcome → Outcome
-onto put o = record { line = put (o .line); action = o .action; part = o .part; written = o .written }
 
 -- an event is refused on x as it is on y, and its outcome on x is that on y, put onto another line
 record Same (e : Event) (x y : Line) (put : Line → Line) : Type 0 where
@@ -69,53 +59,22 @@ record Same (e : Event) (x y : Line) (put : Line → Line) : Type 0 where
 
 -- what each kind needs of a line x
 abbrev ByKind : Kind → Event → Type 0
-ByKind selection e = (x : Line) → Same e x x (phased x)
+ByKind selection e = (x y : Line) → Same e x (withHolds (inPhase y (x .phase)) (x .holds)) (phased x)
 ByKind move e = (x y : Line) → Same e x (inPhase y (x .phase)) (phased x)
-ByKind congesting e = (x : Line) → Same e x x (held x)
+ByKind congesting e = (x : Line) → Same e x (withChildren x []) (held x)
 ByKind tunnel e = (x y : Line) → Same e x (withChildren (inPhase y (x .phase)) (x .children)) (tunnelled x)
-
--- an outcome on the same line is put onto it where only the phase changes
-selects : (e : Event) (x : Line) → OnlyPhase x (outcome e x) → Same e x x (phased x)
-selects e x q = record {
-  tests = λ out. refl;
-  outcomes = ap (λ (z : Line). onto (λ (w : Line). z) (outcome e x)) q;
-}
-
--- the moves whose outcome goes by a packet, an identifier or AUTH
-module _ (x y : Line) where
-  abbrev seen : Line
-  seen = inPhase y (x .phase)
-
-  packet-same : (packet : List ℕ) (p : Packet) → packetTaken x packet p ≡ onto (phased x) (packetTaken seen packet p)
-  unfolding packetTaken keeps goes inPhase
-  packet-same packet (Start i) = refl
-  packet-same packet (NasRequest i at n) = refl
-  packet-same packet (Success i) = refl
-  packet-same packet (NasResponse i p m at n) = refl
-  packet-same packet (Stop i) = refl
-  packet-same packet Other = refl
-
-  reply-same : (parameters nas : List ℕ) (o : Option ℕ) → replied x parameters nas o ≡ onto (phased x) (replied seen parameters nas o)
-  unfolding replied goes inPhase
-  reply-same parameters nas none = refl
-  reply-same parameters nas (some i) = refl
-
-  final-same : (b : Bool) → finished x b ≡ onto (phased x) (finished seen b)
-  unfolding finished keeps goes inPhase
-  final-same true = refl
-  final-same false = refl
 
 -- one clause for each event
 by-kind : (e : Event) → ByKind (kindOf e) e
 unfolding kindOf refusalsOf isOutOfRange isAllowed isSpiTaken hasNoRoom isHeldFull outcome keeps goes inPhase withChildren withHolds congested
-by-kind (start g t room) = λ x. selects (start g t room) x (started-goes x _ t _)
-by-kind (country n networks t room) = λ x. selects (country n networks t room) x (answered-goes x _ _ t _)
-by-kind (address list) = λ x. selects (address list) x (addressed-goes x _ _)
+by-kind (start g t room) = λ x y. record { tests = λ out. refl; outcomes = started-goes x y _ t _ }
+by-kind (country n networks t room) = λ x y. record { tests = λ out. refl; outcomes = answered-goes x y _ _ t _ }
+by-kind (address list) = λ x y. record { tests = λ out. refl; outcomes = addressed-goes x y _ _ }
 by-kind begin = λ x y. record { tests = λ out. refl; outcomes = refl }
 by-kind init = λ x y. record { tests = λ out. refl; outcomes = refl }
-by-kind (eap packet) = λ x y. record { tests = λ out. refl; outcomes = packet-same x y packet _ }
-by-kind (reply parameters nas room) = λ x y. record { tests = λ out. refl; outcomes = reply-same x y parameters nas _ }
-by-kind (final good) = λ x y. record { tests = λ out. refl; outcomes = final-same x y _ }
+by-kind (eap packet) = λ x y. record { tests = λ out. refl; outcomes = packet-goes x y packet _ }
+by-kind (reply parameters nas room) = λ x y. record { tests = λ out. refl; outcomes = replied-goes x y parameters nas _ }
+by-kind (final good) = λ x y. record { tests = λ out. refl; outcomes = finished-goes x y _ }
 by-kind (error number) = λ x y. record { tests = λ out. refl; outcomes = refl }
 by-kind (congestion authenticated timer) = λ x. record { tests = λ out. refl; outcomes = refl }
 by-kind give-up = λ x y. record { tests = λ out. refl; outcomes = refl }
@@ -146,9 +105,10 @@ module _ (e : Event) (time pair : ℕ) (l : List ℕ) (x : Line) where
       go zero = ap (returned zero) (s .outcomes)
       go (suc n) = refl
 
-  -- selection changes the phase alone
-  pub selected-alone : kindOf e ≡ selection → From x (phased found)
-  selected-alone h = from-same x (phased found) (subst (λ (k : Kind). ByKind k e) h (by-kind e) found)
+  -- selection needs all but the children, and changes the phase alone
+  pub selected-alone : kindOf e ≡ selection → From (withChildren x []) (phased found)
+  unfolding current inPhase withChildren withHolds
+  selected-alone h = from-same _ (phased found) (subst (λ (k : Kind). ByKind k e) h (by-kind e) found (withChildren found []))
 
   -- a move needs the phase alone
   pub by-phase : kindOf e ≡ move → From (inPhase fresh (x .phase)) (phased found)
@@ -160,6 +120,7 @@ module _ (e : Event) (time pair : ℕ) (l : List ℕ) (x : Line) where
   unfolding current inPhase withChildren
   on-tunnels h = from-same _ (tunnelled found) (subst (λ (k : Kind). ByKind k e) h (by-kind e) found (current time fresh))
 
-  -- congestion changes the phase and the holds
-  pub congested-alone : kindOf e ≡ congesting → From x (held found)
-  congested-alone h = from-same x (held found) (subst (λ (k : Kind). ByKind k e) h (by-kind e) found)
+  -- congestion needs all but the children, and changes the phase and the holds
+  pub congested-alone : kindOf e ≡ congesting → From (withChildren x []) (held found)
+  unfolding current withChildren
+  congested-alone h = from-same _ (held found) (subst (λ (k : Kind). ByKind k e) h (by-kind e) found)

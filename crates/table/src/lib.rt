@@ -16,7 +16,7 @@ use record::keep;
 use record::keep_held;
 use record::keep_tunnels;
 use record::put_fresh;
-use record::read_record;
+use record::read_childless;
 use record::read_unheld;
 use record::read_unlisted;
 use record::sound::is_record;
@@ -124,13 +124,13 @@ pub fn is_sound(table: &[u8]) -> bool
     true
 }
 
-// The line of a used record.
-pub fn read_slot(table: &[u8], i: usize) -> Record
+// The line of a used record without its children.
+pub fn childless_at(table: &[u8], i: usize) -> Record
     requires { ⌜ UsedAt (now table) i ⌝ }
-    ensures { λ r. ⌜ lineOf r ≡ lineFrom (slot (now (table .entry)) i) ⌝ }
+    ensures { λ r. ⌜ lineOf r ≡ withChildren (lineFrom (slot (now (table .entry)) i)) [] ⌝ }
     ensures { λ r. ⌜ InArrays r ⌝ }
 {
-    read_record(part(table, RECORD * i, RECORD))
+    read_childless(part(table, RECORD * i, RECORD))
 }
 
 // The line of a used record, of which only the phase is known.

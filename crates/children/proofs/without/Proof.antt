@@ -14,10 +14,10 @@ use Rattle.children.proofs.without.Statement.{statement}
 use Rattle.children.proofs.without.Tie as tie
 
 abbrev Inv-loop : tie.InvT-loop
-Inv-loop n spi list kept₀ count₀ i₀ kept count i = (i ≤ n) × Kept (isOther spi) list i kept count
+Inv-loop n spi kept₀ count₀ i₀ kept count i = (i ≤ n) × Kept (isOther spi) kept₀ i kept count
 
 abbrev μ-loop : tie.MeasureT-loop
-μ-loop n spi list kept₀ count₀ i₀ kept count i = n - i
+μ-loop n spi kept₀ count₀ i₀ kept count i = n - i
 
 loop-holds : tie.Need-loop-holds Inv-loop μ-loop
 loop-holds c = (search needs, kept-none)
@@ -48,7 +48,7 @@ unfolding isOther isSpi
 loop-again c =
     let a = c .before .before .before .before .before .args in
     let at-loop = c .before .before .before .before .loop in
-    let inside : at-loop .i < length (a .t1) = search needs in (
+    let inside : at-loop .i < length (a .list) = search needs in (
       search needs,
       ⊎-elim (λ w. kept-more nothing (at-loop .inv .1) inside (ap not (ne-eqb _ _ (w .0 .taken))) (w .1) (w .2))
           (λ w. kept-same nothing (at-loop .inv .1) inside (ap not (eq-eqb _ _ (w .0 .left))) (w .1) (w .2)) (c .if1 .came),

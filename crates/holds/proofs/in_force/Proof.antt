@@ -12,13 +12,10 @@ use Rattle.holds.proofs.in_force.Statement.{statement}
 use Rattle.holds.proofs.in_force.Tie as tie
 
 abbrev Inv-loop : tie.InvT-loop
-Inv-loop n time list kept₀ count₀ i₀ kept count i = (i ≤ n) × Kept (endsAfter time) list i kept count
+Inv-loop n time kept₀ count₀ i₀ kept count i = (i ≤ n) × Kept (endsAfter time) kept₀ i kept count
 
 abbrev μ-loop : tie.MeasureT-loop
-μ-loop n time list kept₀ count₀ i₀ kept count i = n - i
-
-returns : tie.Need-returns Inv-loop μ-loop
-returns c = kept-whole (sym (c .if1 .taken)) (kept-none {p = endsAfter _})
+μ-loop n time kept₀ count₀ i₀ kept count i = n - i
 
 loop-holds : tie.Need-loop-holds Inv-loop μ-loop
 loop-holds c = (search needs, kept-none)
@@ -50,18 +47,18 @@ loop-less c = search needs
 loop-again : tie.Need-loop-again Inv-loop μ-loop
 unfolding endsAfter
 loop-again c =
-    let a = c .before .before .before .before .before .before .args in
+    let a = c .before .before .before .before .before .args in
     let at-loop = c .before .before .before .before .loop in
-    let inside : at-loop .i < length (a .t1) = search needs in
+    let inside : at-loop .i < length (a .list) = search needs in
     let tested = sym (c .before .ends-after .ensures) in (
       search needs,
       ⊎-elim (λ w. kept-more nothing (at-loop .inv .1) inside (tested ∙ w .0 .taken) (w .1) (w .2))
-          (λ w. kept-same nothing (at-loop .inv .1) inside (tested ∙ w .0 .left) (w .1) (w .2)) (c .if2 .came),
+          (λ w. kept-same nothing (at-loop .inv .1) inside (tested ∙ w .0 .left) (w .1) (w .2)) (c .if1 .came),
     )
 
-returns-2 : tie.Need-returns-2 Inv-loop μ-loop
-returns-2 c =
-    let whole : c .before .loop .i ≡ c .before .before .before .args .n = omega arith in
+returns : tie.Need-returns Inv-loop μ-loop
+returns c =
+    let whole : c .before .loop .i ≡ c .before .before .args .n = omega arith in
     kept-whole whole (c .before .loop .inv .1)
 
 pub in-force-spec : {M : Type 1} → statement M
@@ -70,7 +67,6 @@ in-force-spec =
     (tie.spec
     Inv-loop
     μ-loop
-    returns
     loop-holds
     mul-hold
     array-copy-out-hold
@@ -81,4 +77,4 @@ in-force-spec =
     add-i
     loop-less
     loop-again
-    returns-2)
+    returns)

@@ -20,11 +20,11 @@ returns : tie.Need-returns
 unfolding isShort roomOf leastRoom leastEventRoom eventRoom zeros
 returns c = turned-away _ _ _ (address _) _ _ _ refl (c .before .before .before .enter .ensures) (c .before .if1 .taken) _ _ _ refl refl refl
 
-read-slot-requires : tie.Need-read-slot-requires
-read-slot-requires c κs = c .before .before .before .enter .ensures .passes (c .before .if1 .left) .stands .used
+childless-at-requires : tie.Need-childless-at-requires
+childless-at-requires c κs = c .before .before .before .enter .ensures .passes (c .before .if1 .left) .stands .used
 
 address-answer-requires : tie.Need-address-answer-requires
-address-answer-requires c κs = c .read-slot .ensures .1
+address-answer-requires c κs = c .childless-at .ensures .1
 
 move-of-requires : tie.Need-move-of-requires
 move-of-requires c κs = search needs
@@ -44,7 +44,7 @@ returns-2 c =
     let step = c .before .before .before .before .before .before in
     let tested = step .before .before .before in
     let passes = tested .before .before .enter .ensures .passes (tested .if1 .left) in
-    moved _ _ _ (address _) _ _ _ refl passes (selected-alone (address _) _ _ _ _ refl) (step .before .read-slot .ensures .0) (step .address-answer .result) _ _ (step .address-answer .ensures .0)
+    moved _ _ _ (address _) _ _ _ refl passes (selected-alone (address _) _ _ _ _ refl) (step .before .childless-at .ensures .0) (step .address-answer .result) _ _ (step .address-answer .ensures .0)
     (c .before .before .before .before .move-of .ensures) _ _ _ (settle .ensures .0) (settle .ensures .1 .0) (settle .ensures .1 .1)
 
 pub address-spec : {M : Type 1} → statement M
@@ -54,7 +54,7 @@ address-spec =
     enter-requires
     same-length
     returns
-    read-slot-requires
+    childless-at-requires
     address-answer-requires
     move-of-requires
     settle-requires

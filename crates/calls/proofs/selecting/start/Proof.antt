@@ -29,13 +29,13 @@ returns c =
     let first = c .before .before .before .before .before in
     turned-away-named _ _ _ (start _ _ _) _ _ _ refl _ _ _ (first .before .before .enter .ensures) (first .if1 .taken) _ _ _ (away .0) (away .1 .1) (away .1 .0)
 
-read-slot-requires : tie.Need-read-slot-requires
-read-slot-requires c κs = c .before .before .before .enter .ensures .passes (c .before .if1 .left) .stands .used
+childless-at-requires : tie.Need-childless-at-requires
+childless-at-requires c κs = c .before .before .before .enter .ensures .passes (c .before .if1 .left) .stands .used
 
 start-requires : tie.Need-start-requires
 start-requires c κs =
     let first = c .before .before .before in
-    (c .before .read-slot .ensures .1, ltb-false _ _ (first .before .before .enter .ensures .passes (first .if1 .left) .buffer-fits))
+    (c .before .childless-at .ensures .1, ltb-false _ _ (first .before .before .enter .ensures .passes (first .if1 .left) .buffer-fits))
 
 move-of-requires : tie.Need-move-of-requires
 move-of-requires c κs = search needs
@@ -58,7 +58,7 @@ returns-2 c =
     let step = c .before .before .before .before .before .before .before .before in
     let tested = step .before .before .before .before in
     let passes = tested .before .before .enter .ensures .passes (tested .if1 .left) in
-    moved-named _ _ _ (start _ _ _) _ _ _ refl _ _ _ passes (selected-alone (start _ _ _) _ _ _ _ refl) (step .before .before .read-slot .ensures .0) (step .start .result) _ (step .start .ensures .0) (step .start .ensures .1 .0)
+    moved-named _ _ _ (start _ _ _) _ _ _ refl _ _ _ passes (selected-alone (start _ _ _) _ _ _ _ refl) (step .before .before .childless-at .ensures .0) (step .start .result) _ (step .start .ensures .0) (step .start .ensures .1 .0)
     (c .before .before .before .before .move-of .ensures) _ _ _ (settle .ensures .0) (settle .ensures .1 .0) (settle .ensures .1 .1)
 
 pub start-spec : {M : Type 1} → statement M
@@ -70,7 +70,7 @@ start-spec =
     same-length
     same-length-2
     returns
-    read-slot-requires
+    childless-at-requires
     start-requires
     move-of-requires
     settle-requires
