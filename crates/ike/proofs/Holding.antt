@@ -1,37 +1,40 @@
 -- More holds on a line that has room for them, and a line that congestion releases.
-use Prim.Native.Nat.{ℕ, _<_}
+use Prim.Native.Nat.{ℕ, zero, suc, _+_, _≤_, _<_}
 use mathlib.Core.Bool.{true, false, _||_}
-use mathlib.Core.List.{[], append-nil}
+use mathlib.Core.List.{List, [], _∷_, _++_, append-nil}
 use mathlib.Core.Option.{some}
 use mathlib.Core.Path.{_≡_, refl, sym, ap, _∙_}
+use native.Mathlib.Nat.{add-zero, le-refl}
 use native.Mathlib.Omega.{arith}
 use lib.Dec.{leb}
-use lib.ListN.{length}
+use lib.ListN.{length, set, take}
+use lib.Seq.{take-set-le}
 use borrow.Author.Tests.{leb-true}
 use Rattle.octets.specs.Row.{isSome}
 use Rattle.octets.proofs.Search.{and-left, and-right, or-other}
-use Rattle.octets.proofs.Sublists.{only-length}
+use Rattle.octets.proofs.Sublists.{only-length, stored-behind}
 use Rattle.address.specs.Address.{mostHolds}
 use Rattle.address.specs.declared.Address.{Address}
+use Rattle.address.specs.declared.Hold.{Hold}
 use Rattle.holds.specs.Holds.{endsAfter}
 use Rattle.phase.specs.Chosen.{chosen}
 use Rattle.phase.specs.Stage.{isIn}
 use Rattle.phase.specs.Stage as Stage
 use Rattle.phase.specs.declared.Phase.{Phase}
 use Rattle.phase.specs.declared.Phase.the-variants.{Idle, Country, Name, Chosen, Init, Auth, Eap, Sure, Live}
-use Rattle.record.specs.Changes.{current, inPhase}
+use Rattle.record.specs.Changes.{current, inPhase, withHolds}
 use Rattle.record.specs.Line.{Line}
 use Rattle.record.specs.Sound.{holdsSound, mostBusyHolds}
 use Rattle.rules.specs.Life.{becomes, chosenHold, congested, ended, timerHold}
 use Rattle.rules.specs.Phases.{underway}
 use Rattle.rules.specs.declared.Action.the-variants.{Released}
 use Rattle.timer.specs.declared.Timer.{Timer}
-use Rattle.ike.specs.Held.{moreHolds}
 
--- a line without more holds is the same
-pub no-more : (x : Line) → x ≡ moreHolds x []
-unfolding moreHolds
-no-more x = sym (rw (append-nil (x .holds)))
+-- a hold stored behind the first n, and none or one more of them taken
+pub one-more : (l : List Hold) (n : ℕ) (h : Hold) → n < length l → (k : ℕ) → k ≤ 1 → take (n + k) (set l n h) ≡ take n l ++ take k (h ∷ [])
+one-more l n h inside zero few = ap (λ (m : ℕ). take m (set l n h)) (add-zero n) ∙ take-set-le n l n h (le-refl n) ∙ sym (append-nil (take n l))
+one-more l n h inside (suc zero) few = stored-behind l n h inside
+one-more l n h inside (suc (suc k)) few = absurd (omega arith)
 
 -- a line as a call finds it
 module _ (time : ℕ) (x found : Line) (is-found : found ≡ current time x) where
@@ -62,7 +65,7 @@ underway-chosen (Sure a) h = refl
 underway-chosen (Live a) h = refl
 
 -- a line with the chosen address held goes idle
-pub released : (x y : Line) (t : Timer) (a : Address) (n : ℕ) → chosen (x .phase) ≡ some a → y ≡ moreHolds x (timerHold (x .time) t a) → n ≡ ended (x .phase)
-    → becomes (congested x t) (Released (ended (x .phase))) ≡ becomes (inPhase y Idle) (Released n)
-unfolding congested chosenHold inPhase moreHolds
-released x y t a n is holds ends = rw (is, holds, ends)
+pub released : (x y : Line) (t : Timer) (a : Address) (hs : List Hold) (n : ℕ) → chosen (x .phase) ≡ some a → y ≡ withHolds x (x .holds ++ hs) → hs ≡ timerHold (x .time) t a
+    → n ≡ ended (x .phase) → becomes (congested x t) (Released (ended (x .phase))) ≡ becomes (inPhase y Idle) (Released n)
+unfolding congested chosenHold inPhase withHolds
+released x y t a hs n is holds set-by ends = rw (is, holds, set-by, ends)

@@ -1,3 +1,2 @@
--- What a line with more holds is, and the events that come with numbers alone.
+-- The events that come with numbers alone.
 pub mod Events
-pub mod Held

@@ -17,63 +17,76 @@ use step::is_late;
 use step::refused;
 use timer::Timer;
 ghost use mathlib.Core.Bool.{true};
-ghost use mathlib.Core.List.{[], _∷_};
+ghost use mathlib.Core.List.{[], _∷_, _++_};
 ghost use mathlib.Core.Path.{_≡_};
 ghost use Prim.Native.Nat.{_≤_, _<_};
-ghost use lib.ListN.{length};
+ghost use lib.ListN.{length, take};
 ghost use Rattle.address.specs.Address.{mostHolds};
 ghost use Rattle.timer.specs.Timer.{timerOf};
+ghost use Rattle.record.specs.Changes.{withHolds};
 ghost use Rattle.record.specs.Line.{lineOf, InArrays};
 ghost use Rattle.record.specs.Sound.{holdsSound};
 ghost use Rattle.rules.specs.Call.{congestion, lastTime};
 ghost use Rattle.rules.specs.Life.{timerHold};
 ghost use Rattle.step.specs.Step.{effect, effectIn};
-ghost use Rattle.ike.specs.Held.{moreHolds};
 
-// A line with one hold more, behind the others.
-fn with_hold(line: Record, hold: Hold) -> Record
-    requires { ⌜ InArrays line × (length (lineOf line .holds) < mostHolds) ⌝ }
-    ensures { λ r. ⌜ lineOf r ≡ moreHolds (lineOf line) (hold ∷ []) ⌝ }
+// A hold or none, by their count.
+pub(crate) struct MaybeHold {
+    pub hold: Hold,
+    pub count: usize,
+}
+
+// The hold that a timer octet sets on an address at a time, where it sets one.
+fn timer_hold(time: u64, octet: u8, a: Address) -> MaybeHold
+    requires { ⌜ time ≤ lastTime ⌝ }
+    ensures { λ r. ⌜ take (r .count) (r .hold ∷ []) ≡ timerHold time (timerOf octet) a ⌝ }
+    ensures { λ r. ⌜ r .count ≤ 1 ⌝ }
+{
+    let timer = timer::read(octet);
+    match timer {
+        Timer::None => MaybeHold {
+            hold: Hold {
+                address: a,
+                end: End::Never,
+            },
+            count: 0,
+        },
+        Timer::Seconds(n) => MaybeHold {
+            hold: Hold {
+                address: a,
+                end: End::At(time + n),
+            },
+            count: 1,
+        },
+        Timer::Deactivated => MaybeHold {
+            hold: Hold {
+                address: a,
+                end: End::Never,
+            },
+            count: 1,
+        },
+    }
+}
+
+// A line with one hold more, where there is one, behind the others.
+fn with_hold(line: Record, more: MaybeHold) -> Record
+    requires { ⌜ InArrays line × (length (lineOf line .holds) < mostHolds) × (more .count ≤ 1) ⌝ }
+    ensures { λ r. ⌜ lineOf r ≡ withHolds (lineOf line) (lineOf line .holds ++ take (more .count) (more .hold ∷ [])) ⌝ }
     ensures { λ r. ⌜ InArrays r ⌝ }
 {
     let phase = line.phase;
     let mut holds = line.holds;
     let n = line.hold_count;
+    let hold = more.hold;
     holds[n] = hold;
     let children = line.children;
     Record {
         time: line.time,
         phase,
         holds,
-        hold_count: n + 1,
+        hold_count: n + more.count,
         children,
         child_count: line.child_count,
-    }
-}
-
-// A line with the hold that a timer octet sets on an address, where it sets one.
-fn held(line: Record, a: Address, octet: u8) -> Record
-    requires { ⌜ InArrays line × (length (lineOf line .holds) < mostHolds) × (line .time ≤ lastTime) ⌝ }
-    ensures { λ r. ⌜ lineOf r ≡ moreHolds (lineOf line) (timerHold (line .time) (timerOf octet) a) ⌝ }
-    ensures { λ r. ⌜ InArrays r ⌝ }
-{
-    let timer = timer::read(octet);
-    match timer {
-        Timer::None => line,
-        Timer::Seconds(n) => with_hold(
-            line,
-            Hold {
-                address: a,
-                end: End::At(line.time + n),
-            },
-        ),
-        Timer::Deactivated => with_hold(
-            line,
-            Hold {
-                address: a,
-                end: End::Never,
-            },
-        ),
     }
 }
 
@@ -105,7 +118,7 @@ pub fn congestion(line: Record, time: u64, authenticated: u64, timer: u64) -> St
         return refused(line, 10);
     };
     goes(
-        held(found, a, timer as u8),
+        with_hold(found, timer_hold(found.time, timer as u8, a)),
         Phase::Idle,
         Action::Released(ended(phase)),
     )

@@ -57,11 +57,15 @@ module _ (l : List ℕ) (octets : (i : ℕ) → getD l i 0 < 256) (size : length
       let all : allOf (endsAfter t) (x .holds) ≡ true = ap (λ (k : ℕ). allOf (endsAfter t) (holdsFrom l holdsPlace k)) (sym count) ∙ sym is ∙ passed in
       moved w ∙ ap (λ (hs : List Hold). recordOctets pair (record { time = t; phase = p; holds = hs; children = x .children })) (sym (only-whole (endsAfter t) (x .holds) all))
 
-  -- those in force are written too
-  pub some-ended : {n : ℕ} {hs kept-holds : List Hold} → n ≡ field l 25 1 → hs ≡ holdsFrom l holdsPlace n → kept-holds ≡ only (endsAfter t) hs → {k m : List ℕ}
-      → Wrote l timePlace (be 4 t ++ phaseOctets p) k → Changes k m (λ y. withHolds y kept-holds) → m ≡ recordOctets pair (inPhase (current t x) p)
-  unfolding atTime current inPhase lineFrom withHolds
-  some-ended count read stand w change =
-      change pair (atTime t p x) (few-holds x (sound-line l sound)) (few-children x (sound-line l sound)) (moved w)
-      ∙ ap (λ (hs : List Hold). recordOctets pair (record { time = t; phase = p; holds = hs; children = x .children }))
-      (stand ∙ ap (only (endsAfter t)) (read ∙ ap (holdsFrom l holdsPlace) count))
+  -- other holds are written too
+  pub holds-written : (hs : List Hold) {k m : List ℕ} → Wrote l timePlace (be 4 t ++ phaseOctets p) k → Changes k m (λ y. withHolds y hs)
+      → m ≡ recordOctets pair (withHolds (inPhase (current t x) p) hs)
+  unfolding atTime current inPhase withHolds
+  holds-written hs w change = change pair (atTime t p x) (few-holds x (sound-line l sound)) (few-children x (sound-line l sound)) (moved w)
+
+  -- those in force are written
+  pub some-ended : {n : ℕ} {hs kept-holds : List Hold} → n ≡ field l 25 1 → hs ≡ holdsFrom l holdsPlace n → kept-holds ≡ only (endsAfter t) hs → {m : List ℕ}
+      → m ≡ recordOctets pair (withHolds (inPhase (current t x) p) kept-holds) → m ≡ recordOctets pair (inPhase (current t x) p)
+  unfolding current inPhase lineFrom withHolds
+  some-ended count read stand e =
+      e ∙ ap (λ (hs : List Hold). recordOctets pair (withHolds (inPhase (current t x) p) hs)) (stand ∙ ap (only (endsAfter t)) (read ∙ ap (holdsFrom l holdsPlace) count))

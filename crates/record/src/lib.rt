@@ -169,6 +169,15 @@ fn put_tunnels(b: &mut [u8], list: [Child; CHILDREN], n: usize)
     put_children(b, CHILDREN_AT, list, n);
 }
 
+// Stores the time and the phase of the line in a sound record, and the first n of a list as its holds.
+pub fn keep_held(b: &mut [u8], time: u64, phase: Phase, list: [Hold; HOLDS], n: usize)
+    requires { ⌜ (length (now b) ≡ recordLength) × (isRecord (now b) ≡ true) × (n ≤ mostHolds) ⌝ }
+    ensures { λ _. ⌜ now (b .exit) ≡ recordOctets (field (now (b .entry)) 0 1) (withHolds (inPhase (current time (lineFrom (now (b .entry)))) phase) (take n list)) ⌝ }
+{
+    put_head(b, time, phase);
+    put_held(b, list, n);
+}
+
 // Stores the time and the phase of the line in a sound record, and drops its holds that have ended.
 pub fn keep(b: &mut [u8], time: u64, phase: Phase)
     requires { ⌜ (length (now b) ≡ recordLength) × (isRecord (now b) ≡ true) ⌝ }
@@ -179,10 +188,10 @@ pub fn keep(b: &mut [u8], time: u64, phase: Phase)
         put_head(b, time, phase);
         return;
     }
+
     let standing = in_force(read_holds(b, HOLDS_AT, n), n, time);
     let list = standing.list;
-    put_head(b, time, phase);
-    put_held(b, list, standing.count);
+    keep_held(b, time, phase, list, standing.count);
 }
 
 // Stores time and phase like `keep`, and the first n of a list as the children.
@@ -192,15 +201,6 @@ pub fn keep_tunnels(b: &mut [u8], time: u64, phase: Phase, list: [Child; CHILDRE
 {
     keep(b, time, phase);
     put_tunnels(b, list, n);
-}
-
-// Stores time and phase like `keep`, and the first n of a list as the holds.
-pub fn keep_held(b: &mut [u8], time: u64, phase: Phase, list: [Hold; HOLDS], n: usize)
-    requires { ⌜ (length (now b) ≡ recordLength) × (isRecord (now b) ≡ true) × (n ≤ mostHolds) ⌝ }
-    ensures { λ _. ⌜ now (b .exit) ≡ recordOctets (field (now (b .entry)) 0 1) (withHolds (inPhase (current time (lineFrom (now (b .entry)))) phase) (take n list)) ⌝ }
-{
-    keep(b, time, phase);
-    put_held(b, list, n);
 }
 
 // Does nothing; its promise is that writing and reading undo each other.

@@ -41,28 +41,24 @@ in-force-requires c κs =
     let first = c .before .before .before .before .before in
     at-most (first .get .ensures .0) (hold-octet _ (first .before .before .before .pre .1))
 
-put-head-requires-2 : tie.Need-put-head-requires-2
-put-head-requires-2 c κs = search needs
-
-put-held-requires : tie.Need-put-held-requires
-put-held-requires c κs =
-    let standing = c .before .before .before .before .before .before in
+keep-held-requires : tie.Need-keep-held-requires
+keep-held-requires c κs =
+    let standing = c .before .before in
     let first = standing .before .before .before .before .before .before in
     let few = at-most (first .get .ensures .0) (hold-octet _ (first .before .before .before .pre .1)) in
-    (search needs, omega (arith, standing .in-force .ensures .1, few))
+    (search needs, search needs, omega (arith, standing .in-force .ensures .1, few))
 
 same-length-2 : tie.Need-same-length-2
 same-length-2 c = search needs
 
 returns-2 : tie.Need-returns-2
 returns-2 c =
-    let head = c .before .before .before .before .before .before in
-    let standing = head .before .before .before in
+    let standing = c .before .before .before .before .before in
     let first = standing .before .before .before .before .before .before in
     let start = first .before .before .before in
     let a = start .args in
     some-ended (now (a .b)) (λ i. first .before .before .slice-known .given i .fits) (start .pre .0) (start .pre .1) (a .time) (a .phase)
-    (first .get .ensures .0) (standing .before .read-holds .ensures) (standing .in-force .ensures .0) (head .put-head2 .ensures) (c .before .before .put-held .ensures)
+    (first .get .ensures .0) (standing .before .read-holds .ensures) (standing .in-force .ensures .0) (c .before .before .keep-held .ensures)
 
 pub keep-spec : {M : Type 1} → statement M
 keep-spec =
@@ -75,7 +71,6 @@ keep-spec =
     returns
     read-holds-requires
     in-force-requires
-    put-head-requires-2
-    put-held-requires
+    keep-held-requires
     same-length-2
     returns-2)

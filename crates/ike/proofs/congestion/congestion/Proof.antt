@@ -125,21 +125,27 @@ returns-6 c =
     let none = sym (c .before .before .before .chosen .ensures) ∙ ap addressOption (c .before .enum-told .given .1) in
     absurd (false≢true (sym (ap isSome none) ∙ underway-chosen _ on))
 
-cast-held : tie.Need-cast-held
-cast-held c = search needs
+cast-timer-hold : tie.Need-cast-timer-hold
+cast-timer-hold c = search needs
 
-held-requires : tie.Need-held-requires
-unfolding addressOption lineOf
-held-requires c κs =
+timer-hold-requires : tie.Need-timer-hold-requires
+unfolding lineOf
+timer-hold-requires c κs =
     let tested = c .before .before .before .before .before .before .before in
     let start = tested .before .before .before .before .before .args in
     let found = tested .before .before .before .before .current in
     let timely = ltb-false lastTime (start .time) (sym (tested .before .before .before .is-late .ensures) ∙ tested .before .before .if1 .left) in
-    let is = sym (c .before .before .before .chosen .ensures) ∙ ap addressOption (c .before .a .given .1) in
-    let stored = time-stored (start .time) (lineOf (start .line)) (lineOf (found .result)) (found .ensures .0) in
-    let sound = tested .before .before .before .before .before .pre .1 in
-    let room = has-room (start .time) (lineOf (start .line)) (lineOf (found .result)) (found .ensures .0) sound (chosen-busy _ _ is) in
-    (found .ensures .1, room, omega (arith, stored, timely))
+    omega (arith, time-stored (start .time) (lineOf (start .line)) (lineOf (found .result)) (found .ensures .0), timely)
+
+with-hold-requires : tie.Need-with-hold-requires
+unfolding addressOption lineOf
+with-hold-requires c κs =
+    let tested = c .before .before .before .before .before .before .before .before in
+    let start = tested .before .before .before .before .before in
+    let found = tested .before .before .before .before .current in
+    let is = sym (c .before .before .before .before .chosen .ensures) ∙ ap addressOption (c .before .before .a .given .1) in
+    let room = has-room (start .args .time) (lineOf (start .args .line)) (lineOf (found .result)) (found .ensures .0) (start .pre .1) (chosen-busy _ _ is) in
+    (found .ensures .1, room, c .timer-hold .ensures .1)
 
 ended-requires : tie.Need-ended-requires
 ended-requires c κs = search needs
@@ -150,21 +156,21 @@ goes-requires c κs = search needs
 returns-7 : tie.Need-returns-7
 unfolding addressOption eventRoom hasNoRoom isAllowed isHeldFull isMalformed isOutOfRange isSpiTaken lineOf outcome padded zeros
 returns-7 c =
-    let tested = c .before .before .before .before .before .before .before .before .before .before in
+    let tested = c .before .before .before .before .before .before .before .before .before .before .before in
     let start = tested .before .before .before .before .before .args in
     let found = tested .before .before .before .before .current in
     let timely = sym (tested .before .before .before .is-late .ensures) ∙ tested .before .before .if1 .left in
     let low = le-ltb 1 (start .authenticated) (tested .before .if2 .left) in
     let fits = or-both (ltb 1 (start .authenticated)) (ltb mostOctet (start .timer)) low (le-ltb mostOctet (start .timer) (tested .if3 .left)) in
-    let going = c .before .before .before .before .before .before .before .before .is-underway in
-    let on = sym (going .ensures) ∙ not-false (going .result) (c .before .before .before .before .before .before .before .if5 .left) in
-    let known = eq-eqb (start .authenticated) 1 (c .before .before .before .before .before .before .before .before .before .if4 .left) in
+    let going = c .before .before .before .before .before .before .before .before .before .is-underway in
+    let on = sym (going .ensures) ∙ not-false (going .result) (c .before .before .before .before .before .before .before .before .if5 .left) in
+    let known = eq-eqb (start .authenticated) 1 (c .before .before .before .before .before .before .before .before .before .before .if4 .left) in
     let is-allowed = and-true (eqb (start .authenticated) 1) (underway (found .result .phase)) known on in
     let allowed = accepted (congestion (start .authenticated) (start .timer)) _ (lineOf (found .result)) timely fits refl is-allowed refl refl refl in
-    let is = sym (c .before .before .before .before .before .before .chosen .ensures) ∙ ap addressOption (c .before .before .before .before .a .given .1) in
+    let is = sym (c .before .before .before .before .before .before .before .chosen .ensures) ∙ ap addressOption (c .before .before .before .before .before .a .given .1) in
     let gives = c .goes .ensures in (
       taken (congestion _ _) (start .time) (start .line) (found .result) _ (found .ensures .0) allowed _
-          (released (lineOf (found .result)) _ _ _ _ is (c .before .before .held .ensures .0) (c .before .ended .ensures)) gives,
+          (released (lineOf (found .result)) _ _ _ _ _ is (c .before .before .with-hold .ensures .0) (c .before .before .before .timer-hold .ensures .0) (c .before .ended .ensures)) gives,
       gives .in-arrays,
     )
 
@@ -190,8 +196,9 @@ congestion-spec =
     enum-told
     refused-requires-6
     returns-6
-    cast-held
-    held-requires
+    cast-timer-hold
+    timer-hold-requires
+    with-hold-requires
     ended-requires
     goes-requires
     returns-7)
