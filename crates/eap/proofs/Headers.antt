@@ -1,16 +1,61 @@
 -- What the tests of a packet's first octets come to.
-use Prim.Native.Nat.{ℕ, _≤_, _<_}
+use Prim.Native.Nat.{ℕ, _+_, _*_, _^_, _≤_, _<_}
 use mathlib.Core.Bool.{true, false, _&&_}
-use mathlib.Core.List.{List}
-use mathlib.Core.Path.{_≡_}
+use mathlib.Core.List.{List, [], _∷_}
+use mathlib.Core.Path.{_≡_, refl, sym, ap, ap₂, _∙_}
 use native.Mathlib.Omega.{arith}
-use lib.Dec.{leb, eqb}
+use lib.Dec.{leb, ltb, eqb}
 use lib.ListN.{length}
-use borrow.Author.Tests.{le-leb, lt-leb, leb-true, eq-eqb, ne-eqb}
-use Rattle.octets.proofs.Search.{and-left}
-use Rattle.eap.specs.Packet.{isSuccess, isExpanded, isMessage, isNasRequest, isNasResponse, code, identifier, lengthField, typeField, vendor, vendorType, message, readPacket}
-use Rattle.eap.specs.Branch.{requestOf, responseOf}
-use Rattle.eap.specs.declared.Packet.the-variants.{Start, Success, Stop, Other}
+use borrow.Author.Tests.{le-leb, lt-leb, leb-true, ltb-true, eq-eqb, eqb-true, ne-eqb}
+use Rattle.octets.specs.Digits.{be, digits, field, low, number, numberFrom}
+use Rattle.octets.specs.Laws.{below}
+use Rattle.octets.specs.Part.{part}
+use Rattle.octets.specs.Search.{allOf}
+use Rattle.octets.proofs.Fields.{be-part, field-halves}
+use Rattle.octets.proofs.Parts.{length-part}
+use Rattle.octets.proofs.Splices.{field-part}
+use Rattle.octets.proofs.Search.{and-left, and-right, either, never-passes}
+use Rattle.eap.specs.Packet.{isSuccess, isExpanded, isMessage, isNasRequest, isNasResponse, code, lengthField, typeField, vendor, vendorType, message, readPacket}
+use Rattle.eap.specs.Branch.{responseOf}
+
+-- the 14 first octets of an EAP-5G packet
+pub record Expanded (l : List ℕ) : Type 0 where
+  pub enough : 14 ≤ length l
+  pub whole : lengthField l ≡ length l
+  pub type : typeField l ≡ 254
+  pub from : vendor l ≡ 10415
+  pub method : vendorType l ≡ 3
+
+pub expanded-facts : (l : List ℕ) → isExpanded l ≡ true → Expanded l
+unfolding isExpanded
+expanded-facts l h =
+    let h₄ = and-left (leb 14 (length l) && eqb (lengthField l) (length l) && eqb (typeField l) 254 && eqb (vendor l) 10415) (eqb (vendorType l) 3) h in
+    let h₃ = and-left (leb 14 (length l) && eqb (lengthField l) (length l) && eqb (typeField l) 254) (eqb (vendor l) 10415) h₄ in
+    let h₂ = and-left (leb 14 (length l) && eqb (lengthField l) (length l)) (eqb (typeField l) 254) h₃ in
+    record {
+      enough = leb-true _ _ (and-left (leb 14 (length l)) (eqb (lengthField l) (length l)) h₂);
+      whole = eqb-true _ _ (and-right (leb 14 (length l)) (eqb (lengthField l) (length l)) h₂);
+      type = eqb-true _ _ (and-right (leb 14 (length l) && eqb (lengthField l) (length l)) (eqb (typeField l) 254) h₃);
+      from = eqb-true _ _ (and-right (leb 14 (length l) && eqb (lengthField l) (length l) && eqb (typeField l) 254) (eqb (vendor l) 10415) h₄);
+      method = eqb-true _ _ (and-right (leb 14 (length l) && eqb (lengthField l) (length l) && eqb (typeField l) 254 && eqb (vendor l) 10415) (eqb (vendorType l) 3) h);
+    }
+
+-- the octets of type, vendor and vendor type
+abbrev typed : List ℕ
+typed = 254 ∷ 0 ∷ 40 ∷ 175 ∷ 0 ∷ 0 ∷ 0 ∷ 3 ∷ []
+
+-- as many octets that say one number are the same
+low-same : (ds es : List ℕ) → length ds ≡ length es → allOf (below 256) ds ≡ true → allOf (below 256) es ≡ true → low ds ≡ low es → ds ≡ es
+unfolding low allOf below
+low-same [] [] size a b e = refl
+low-same [] (x ∷ es) size a b e = absurd (omega (arith, size))
+low-same (d ∷ ds) [] size a b e = absurd (omega (arith, size))
+low-same (d ∷ ds) (x ∷ es) size a b e =
+    let d-short = ltb-true d 256 (and-left (ltb d 256) (allOf (below 256) ds) a) in
+    let x-short = ltb-true x 256 (and-left (ltb x 256) (allOf (below 256) es) b) in
+    ap₂ (λ (y : ℕ) (ys : List ℕ). y ∷ ys) (omega (arith, e, d-short, x-short))
+    (low-same ds es (omega (arith, size)) (and-right (ltb d 256) (allOf (below 256) ds) a) (and-right (ltb x 256) (allOf (below 256) es) b)
+    (omega (arith, e, d-short, x-short)))
 
 module _ (l : List ℕ) where
   -- fewer than 14 octets
@@ -18,96 +63,42 @@ module _ (l : List ℕ) where
   unfolding isExpanded
   short h = simp (lt-leb 14 (length l) h)
 
-  -- each test fails where those before it passed
   module _ (enough : 14 ≤ length l) where
     pub wrong-length : (lengthField l ≡ length l → ⊥) → isExpanded l ≡ false
     unfolding isExpanded
     wrong-length h = simp (le-leb 14 (length l) enough, ne-eqb (lengthField l) (length l) h)
 
     module _ (whole : lengthField l ≡ length l) where
-      pub wrong-type : (typeField l ≡ 254 → ⊥) → isExpanded l ≡ false
+      pub by-vendor-type : typeField l ≡ 254 → vendor l ≡ 10415 → isExpanded l ≡ eqb (vendorType l) 3
       unfolding isExpanded
-      wrong-type h = simp (le-leb 14 (length l) enough, eq-eqb (lengthField l) (length l) whole, ne-eqb (typeField l) 254 h)
+      by-vendor-type type from =
+          simp (le-leb 14 (length l) enough, eq-eqb (lengthField l) (length l) whole, eq-eqb (typeField l) 254 type, eq-eqb (vendor l) 10415 from)
 
-      module _ (type : typeField l ≡ 254) where
-        pub wrong-vendor : (vendor l ≡ 10415 → ⊥) → isExpanded l ≡ false
-        unfolding isExpanded
-        wrong-vendor h =
-            simp (le-leb 14 (length l) enough, eq-eqb (lengthField l) (length l) whole, eq-eqb (typeField l) 254 type, ne-eqb (vendor l) 10415 h)
+      -- type, vendor and vendor type as one number of eight octets
+      module _ (octets : allOf (below 256) (part l 4 8) ≡ true) where
+        are-typed : Expanded l → part l 4 8 ≡ typed
+        unfolding typeField vendor vendorType be digits
+        are-typed f =
+            sym (be-part l 4 8 (omega (arith, enough)) octets)
+            ∙ ap (be 8)
+            (field-halves l 4 1 7 (omega (arith, enough))
+            ∙ ap₂ (λ (x y : ℕ). x * 256 ^ 7 + y) (f .type) (field-halves l 5 3 4 (omega (arith, enough)) ∙ ap₂ (λ (x y : ℕ). x * 256 ^ 4 + y) (f .from) (f .method)))
 
-        pub by-vendor-type : vendor l ≡ 10415 → isExpanded l ≡ eqb (vendorType l) 3
-        unfolding isExpanded
-        by-vendor-type h =
-            simp (le-leb 14 (length l) enough, eq-eqb (lengthField l) (length l) whole, eq-eqb (typeField l) 254 type, eq-eqb (vendor l) 10415 h)
+        typed-is : part l 4 8 ≡ typed → isExpanded l ≡ true
+        unfolding typeField vendor vendorType field part number numberFrom
+        typed-is e =
+            by-vendor-type (sym (field-part l 4 8 0 1 (omega arith)) ∙ ap (λ (k : List ℕ). field k 0 1) e)
+            (sym (field-part l 4 8 1 3 (omega arith)) ∙ ap (λ (k : List ℕ). field k 1 3) e)
+            ∙ eq-eqb _ _ (sym (field-part l 4 8 4 4 (omega arith)) ∙ ap (λ (k : List ℕ). field k 4 4) e)
 
-  -- an EAP-5G packet has 14 octets
-  pub expanded-length : isExpanded l ≡ true → 14 ≤ length l
-  unfolding isExpanded
-  expanded-length e =
-      leb-true 14 (length l)
-      (and-left (leb 14 (length l)) (eqb (lengthField l) (length l))
-      (and-left (leb 14 (length l) && eqb (lengthField l) (length l)) (eqb (typeField l) 254)
-      (and-left (leb 14 (length l) && eqb (lengthField l) (length l) && eqb (typeField l) 254) (eqb (vendor l) 10415)
-      (and-left (leb 14 (length l) && eqb (lengthField l) (length l) && eqb (typeField l) 254 && eqb (vendor l) 10415) (eqb (vendorType l) 3) e))))
+        pub by-word : (w : ℕ) → w ≡ low (part l 4 8) → eqb w 216172785052418302 ≡ isExpanded l
+        unfolding low allOf below
+        by-word w is =
+            either w 216172785052418302
+            (λ e. eq-eqb _ _ e ∙ sym (typed-is (low-same (part l 4 8) typed (length-part l 4 8 (omega (arith, enough))) octets refl (sym is ∙ e))))
+            (λ h. ne-eqb _ _ h ∙ sym (never-passes (isExpanded l) (λ e. h (is ∙ ap low (are-typed (expanded-facts l e))))))
 
-  -- four octets are Success or nothing
-  module _ (four : length l ≡ 4) where
-    not-expanded : isExpanded l ≡ false
-    not-expanded = short (omega arith)
-
-    pub success : code l ≡ 3 → lengthField l ≡ 4 → Success (identifier l) ≡ readPacket l
-    unfolding readPacket isSuccess
-    success h k = simp (eq-eqb (length l) 4 four, eq-eqb (code l) 3 h, eq-eqb (lengthField l) 4 k)
-
-    nothing : isSuccess l ≡ false → Other ≡ readPacket l
-    unfolding readPacket isMessage isNasRequest isNasResponse
-    nothing e = simp (e, not-expanded)
-
-    pub wrong-code : (code l ≡ 3 → ⊥) → Other ≡ readPacket l
-    unfolding isSuccess
-    wrong-code h = nothing (simp (eq-eqb (length l) 4 four, ne-eqb (code l) 3 h))
-
-    pub wrong-four : code l ≡ 3 → (lengthField l ≡ 4 → ⊥) → Other ≡ readPacket l
-    unfolding isSuccess
-    wrong-four h k = nothing (simp (eq-eqb (length l) 4 four, eq-eqb (code l) 3 h, ne-eqb (lengthField l) 4 k))
-
-  -- any other number of octets
-  module _ (not-four : length l ≡ 4 → ⊥) where
-    not-success : isSuccess l ≡ false
-    unfolding isSuccess
-    not-success = simp (ne-eqb (length l) 4 not-four)
-
-    pub no-header : isExpanded l ≡ false → Other ≡ readPacket l
-    unfolding readPacket isMessage isNasRequest isNasResponse
-    no-header e = simp (not-success, e)
-
-    module _ (header : isExpanded l ≡ true) where
-      module _ (request : code l ≡ 1) where
-        pub start : message l ≡ 1 → Start (identifier l) ≡ readPacket l
-        unfolding readPacket isMessage
-        start m = simp (not-success, header, request, m)
-
-        pub nas-request : message l ≡ 2 → requestOf l ≡ readPacket l
-        unfolding readPacket requestOf isMessage isNasRequest isNasResponse
-        nas-request m = simp (not-success, header, request, m)
-
-        pub other-request : (message l ≡ 1 → ⊥) → (message l ≡ 2 → ⊥) → Other ≡ readPacket l
-        unfolding readPacket isMessage isNasRequest isNasResponse
-        other-request h k = simp (not-success, header, request, ne-eqb (message l) 1 h, ne-eqb (message l) 2 k)
-
-      module _ (response : code l ≡ 2) where
-        pub nas-response : message l ≡ 2 → responseOf l ≡ readPacket l
-        unfolding readPacket responseOf isMessage isNasRequest isNasResponse
-        nas-response m = simp (not-success, header, response, m)
-
-        pub stop : message l ≡ 4 → Stop (identifier l) ≡ readPacket l
-        unfolding readPacket isMessage isNasRequest isNasResponse
-        stop m = simp (not-success, header, response, m)
-
-        pub other-response : (message l ≡ 2 → ⊥) → (message l ≡ 4 → ⊥) → Other ≡ readPacket l
-        unfolding readPacket isMessage isNasRequest isNasResponse
-        other-response h k = simp (not-success, header, response, ne-eqb (message l) 2 h, ne-eqb (message l) 4 k)
-
-      pub other-code : (code l ≡ 1 → ⊥) → (code l ≡ 2 → ⊥) → Other ≡ readPacket l
-      unfolding readPacket isMessage isNasRequest isNasResponse
-      other-code h k = simp (not-success, header, ne-eqb (code l) 1 h, ne-eqb (code l) 2 k)
+  -- a NAS response by its code and message
+  pub nas-response : (length l ≡ 4 → ⊥) → isExpanded l ≡ true → code l ≡ 2 → message l ≡ 2 → responseOf l ≡ readPacket l
+  unfolding readPacket responseOf isSuccess isMessage isNasRequest isNasResponse
+  nas-response not-four header response m = simp (ne-eqb (length l) 4 not-four, header, response, m)

@@ -6,14 +6,16 @@ use mathlib.Core.Path.{_≡_, refl}
 use native.Mathlib.Omega.{arith}
 use lib.Dec.{leb, eqb}
 use lib.ListN.{length}
-use borrow.Author.Tests.{leb-true, eqb-true}
+use borrow.Author.Tests.{leb-true, eqb-true, ne-eqb}
 use Rattle.octets.specs.Digits.{field}
 use Rattle.octets.specs.Part.{part}
 use Rattle.octets.proofs.Search.{and-left, and-right}
 use Rattle.parameters.specs.Parameters.{wellFormed}
-use Rattle.eap.specs.Packet.{code, identifier, lengthField, typeField, vendor, vendorType, message, fits, isExpanded, isMessage, isNas, isParameters, isSuccess, isNasRequest, isNasResponse, nasPlace, readPacket}
+use Rattle.eap.specs.Packet.{code, identifier, lengthField, message, fits, isExpanded, isMessage, isNas, isParameters, isSuccess, isNasRequest, isNasResponse, nasPlace, readPacket}
 use Rattle.eap.specs.declared.Packet.the-variants.{Start, NasRequest, Success, NasResponse, Stop, Other}
+use Rattle.eap.specs.Branch.{responseOf}
 use Rattle.eap.proofs.Blocks.{fits-within}
+use Rattle.eap.proofs.Headers.{Expanded, expanded-facts, nas-response}
 
 module _ (l : List ℕ) where
   -- a packet read as a NAS request is one, and its fields are those of the packet
@@ -80,30 +82,68 @@ module _ (l : List ℕ) where
       let nas = nas-facts 14 (and-right (isMessage 1 2 l) (isNas l 14) (r .0)) in
       omega arith
 
--- the first 14 octets of an EAP-5G packet of a code with a message
+-- an EAP-5G packet of a code with a message
 pub record Header (l : List ℕ) (c m : ℕ) : Type 0 where
-  pub enough : 14 ≤ length l
-  pub whole : lengthField l ≡ length l
-  pub type : typeField l ≡ 254
-  pub from : vendor l ≡ 10415
-  pub method : vendorType l ≡ 3
+  pub expanded : Expanded l
   pub code-is : code l ≡ c
   pub message-is : message l ≡ m
 
 pub header-facts : (l : List ℕ) (c m : ℕ) → isMessage c m l ≡ true → Header l c m
-unfolding isMessage isExpanded
+unfolding isMessage
 header-facts l c m e =
     let coded = and-left (isExpanded l && eqb (code l) c) (eqb (message l) m) e in
-    let h = and-left (isExpanded l) (eqb (code l) c) coded in
-    let h₄ = and-left (leb 14 (length l) && eqb (lengthField l) (length l) && eqb (typeField l) 254 && eqb (vendor l) 10415) (eqb (vendorType l) 3) h in
-    let h₃ = and-left (leb 14 (length l) && eqb (lengthField l) (length l) && eqb (typeField l) 254) (eqb (vendor l) 10415) h₄ in
-    let h₂ = and-left (leb 14 (length l) && eqb (lengthField l) (length l)) (eqb (typeField l) 254) h₃ in
     record {
-      enough = leb-true _ _ (and-left (leb 14 (length l)) (eqb (lengthField l) (length l)) h₂);
-      whole = eqb-true _ _ (and-right (leb 14 (length l)) (eqb (lengthField l) (length l)) h₂);
-      type = eqb-true _ _ (and-right (leb 14 (length l) && eqb (lengthField l) (length l)) (eqb (typeField l) 254) h₃);
-      from = eqb-true _ _ (and-right (leb 14 (length l) && eqb (lengthField l) (length l) && eqb (typeField l) 254) (eqb (vendor l) 10415) h₄);
-      method = eqb-true _ _ (and-right (leb 14 (length l) && eqb (lengthField l) (length l) && eqb (typeField l) 254 && eqb (vendor l) 10415) (eqb (vendorType l) 3) h);
+      expanded = expanded-facts l (and-left (isExpanded l) (eqb (code l) c) coded);
       code-is = eqb-true _ _ (and-right (isExpanded l) (eqb (code l) c) coded);
       message-is = eqb-true _ _ (and-right (isExpanded l && eqb (code l) c) (eqb (message l) m) e);
     }
+
+-- what a packet is read as, by the tests that it passes
+module _ (l : List ℕ) where
+  -- an EAP-5G packet has more octets than Success
+  not-success : (c m : ℕ) → isMessage c m l ≡ true → isSuccess l ≡ false
+  unfolding isSuccess
+  not-success c m e = simp (ne-eqb (length l) 4 (λ q. omega (arith, q, header-facts l c m e .expanded .enough)))
+
+  pub start-is : isMessage 1 1 l ≡ true → Start (identifier l) ≡ readPacket l
+  unfolding readPacket
+  start-is e = simp (not-success 1 1 e, e)
+
+  pub success-is : isSuccess l ≡ true → Success (identifier l) ≡ readPacket l
+  unfolding readPacket
+  success-is e = rw e
+
+  -- Success has its identifier
+  pub success-long : isSuccess l ≡ true → 4 ≤ length l
+  unfolding isSuccess
+  success-long e =
+      let four = eqb-true (length l) 4 (and-left (eqb (length l) 4) (eqb (code l) 3) (and-left (eqb (length l) 4 && eqb (code l) 3) (eqb (lengthField l) 4) e)) in
+      omega arith
+
+  -- a NAS request has its NAS length
+  pub request-long : isNasRequest l ≡ true → 16 ≤ length l
+  unfolding isNasRequest
+  request-long e =
+      let nas = nas-facts l 14 (and-right (isMessage 1 2 l) (isNas l 14) e) in
+      omega arith
+
+  pub response-is : isMessage 2 2 l ≡ true → responseOf l ≡ readPacket l
+  unfolding isMessage
+  response-is e =
+      let h = header-facts l 2 2 e in
+      nas-response l (λ q. omega (arith, q, h .expanded .enough)) (and-left (isExpanded l) (eqb (code l) 2) (and-left (isExpanded l && eqb (code l) 2) (eqb (message l) 2) e))
+      (h .code-is) (h .message-is)
+
+  module _ (no-start : isMessage 1 1 l ≡ false) where
+    pub request-is : isNasRequest l ≡ true → NasRequest (identifier l) 16 (field l 14 2) ≡ readPacket l
+    unfolding readPacket isNasRequest
+    request-is e = simp (not-success 1 2 (and-left (isMessage 1 2 l) (isNas l 14) e), no-start, e)
+
+    module _ (no-request : isNasRequest l ≡ false) (no-success : isSuccess l ≡ false) (no-response : isMessage 2 2 l ≡ false) where
+      pub stop-is : isMessage 2 4 l ≡ true → Stop (identifier l) ≡ readPacket l
+      unfolding readPacket isNasResponse
+      stop-is e = simp (no-success, no-start, no-request, no-response, e)
+
+      pub other-is : isMessage 2 4 l ≡ false → Other ≡ readPacket l
+      unfolding readPacket isNasResponse
+      other-is e = simp (no-success, no-start, no-request, no-response, e)

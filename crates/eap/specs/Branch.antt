@@ -7,15 +7,11 @@ use Rattle.eap.specs.Packet.{identifier, isNas, isParameters, nasPlace}
 use Rattle.eap.specs.declared.Block.{Block}
 use Rattle.eap.specs.declared.Block.the-variants.{Length, Broken}
 use Rattle.eap.specs.declared.Packet.{Packet}
-use Rattle.eap.specs.declared.Packet.the-variants.{NasRequest, NasResponse, Other}
+use Rattle.eap.specs.declared.Packet.the-variants.{NasResponse, Other}
 
 -- octets behind their length, where a test of them passes
 unfoldable pub blockOf : Bool → ℕ → Block
 blockOf whole n = cond whole (Length n) Broken
-
--- what goes on behind the header of a NAS request
-unfoldable pub requestOf : List ℕ → Packet
-requestOf l = cond (isNas l 14) (NasRequest (identifier l) 16 (field l 14 2)) Other
 
 -- what goes on behind the header of a NAS response
 unfoldable pub responseOf : List ℕ → Packet

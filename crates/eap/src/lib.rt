@@ -1,17 +1,21 @@
 // The reader of EAP-5G packets.
 use octets::number::get;
 use octets::slice::part;
+use octets::slice::word;
 use parameters::MOST_PARAMETERS;
 use parameters::well_formed;
 ghost use mathlib.Core.Path.{_≡_};
 ghost use Prim.Native.Nat.{_≤_};
 ghost use lib.ListN.{length};
 ghost use Rattle.octets.specs.Digits.{field};
-ghost use Rattle.eap.specs.Packet.{fits, isExpanded, isNas, isParameters, readPacket};
-ghost use Rattle.eap.specs.Branch.{blockOf, requestOf, responseOf};
+ghost use Rattle.eap.specs.Packet.{fits, isExpanded, isMessage, isNas, isNasRequest, isParameters, isSuccess, readPacket};
+ghost use Rattle.eap.specs.Branch.{blockOf, responseOf};
 
 // The most octets that NAS has.
 pub const MOST_NAS: usize = 2048;
+
+// Type, vendor and vendor type of every packet but Success as one number: 254, 10415 and 3 in eight octets, the first of them lowest.
+const EXPANDED: u64 = 216172785052418302;
 
 // A packet: its identifier, and where its AN-parameters and its NAS stand and how long they are.
 pub enum Packet {
@@ -107,31 +111,50 @@ fn is_expanded(packet: &[u8]) -> bool
     if get(packet, 2, 2) != n as u64 {
         return false;
     }
-    if get(packet, 4, 1) != 254 {
-        return false;
-    }
-    if get(packet, 5, 3) != 10415 {
-        return false;
-    }
-    get(packet, 8, 4) == 3
+    word(packet, 4) == EXPANDED
 }
 
-// A request or response with a NAS message is that where what follows is whole.
-fn read_request(packet: &[u8]) -> Packet
-    requires { ⌜ 14 ≤ length (now packet) ⌝ }
-    ensures { λ r. ⌜ r ≡ requestOf (now (packet .entry)) ⌝ }
+// Whether a packet is an EAP-5G packet of a code with a message.
+pub fn is_message(packet: &[u8], code: u64, message: u64) -> bool
+    ensures { λ r. ⌜ r ≡ isMessage code message (now (packet .entry)) ⌝ }
 {
+    if !is_expanded(packet) {
+        return false;
+    }
+    if get(packet, 0, 1) != code {
+        return false;
+    }
+    get(packet, 12, 1) == message
+}
+
+// Whether a packet is a request with a NAS message, and whole NAS follows.
+pub fn is_nas_request(packet: &[u8]) -> bool
+    ensures { λ r. ⌜ r ≡ isNasRequest (now (packet .entry)) ⌝ }
+{
+    if !is_message(packet, 1, 2) {
+        return false;
+    }
     match nas_at(packet, 14) {
-        Block::Length(nas_length) => Packet::NasRequest {
-            identifier: get(packet, 1, 1),
-            nas: 16,
-            nas_length,
-        },
-        Block::Broken => Packet::Other,
+        Block::Length(_) => true,
+        Block::Broken => false,
     }
 }
 
-fn read_response(packet: &[u8]) -> Packet
+// Whether a packet is Success.
+pub fn is_success(packet: &[u8]) -> bool
+    ensures { λ r. ⌜ r ≡ isSuccess (now (packet .entry)) ⌝ }
+{
+    if packet.len() != 4 {
+        return false;
+    }
+    if get(packet, 0, 1) != 3 {
+        return false;
+    }
+    get(packet, 2, 2) == 4
+}
+
+// A response with a NAS message is that where what follows is whole.
+pub fn read_response(packet: &[u8]) -> Packet
     requires { ⌜ 14 ≤ length (now packet) ⌝ }
     ensures { λ r. ⌜ r ≡ responseOf (now (packet .entry)) ⌝ }
 {
@@ -151,51 +174,34 @@ fn read_response(packet: &[u8]) -> Packet
     }
 }
 
-// A packet of four octets is Success or nothing.
-fn read_success(packet: &[u8]) -> Packet
-    requires { ⌜ length (now packet) ≡ 4 ⌝ }
-    ensures { λ r. ⌜ r ≡ readPacket (now (packet .entry)) ⌝ }
-{
-    if get(packet, 0, 1) != 3 {
-        return Packet::Other;
-    }
-    if get(packet, 2, 2) != 4 {
-        return Packet::Other;
-    }
-    Packet::Success {
-        identifier: get(packet, 1, 1),
-    }
-}
-
 // Reads any octets.
 pub fn read(packet: &[u8]) -> Packet
     ensures { λ r. ⌜ r ≡ readPacket (now (packet .entry)) ⌝ }
 {
-    if packet.len() == 4 {
-        return read_success(packet);
+    if is_message(packet, 1, 1) {
+        return Packet::Start {
+            identifier: get(packet, 1, 1),
+        };
     }
-    if !is_expanded(packet) {
-        return Packet::Other;
+    if is_nas_request(packet) {
+        return Packet::NasRequest {
+            identifier: get(packet, 1, 1),
+            nas: 16,
+            nas_length: get(packet, 14, 2) as usize,
+        };
     }
-    let code = get(packet, 0, 1);
-    let identifier = get(packet, 1, 1);
-    let message = get(packet, 12, 1);
-    if code == 1 {
-        if message == 1 {
-            return Packet::Start { identifier };
-        }
-        if message == 2 {
-            return read_request(packet);
-        }
-        return Packet::Other;
+    if is_success(packet) {
+        return Packet::Success {
+            identifier: get(packet, 1, 1),
+        };
     }
-    if code == 2 {
-        if message == 2 {
-            return read_response(packet);
-        }
-        if message == 4 {
-            return Packet::Stop { identifier };
-        }
+    if is_message(packet, 2, 2) {
+        return read_response(packet);
+    }
+    if is_message(packet, 2, 4) {
+        return Packet::Stop {
+            identifier: get(packet, 1, 1),
+        };
     }
     Packet::Other
 }

@@ -15,7 +15,6 @@ use Rattle.eap.specs.declared.Packet.{Packet}
 use Rattle.eap.specs.declared.Packet.the-variants.{Start, NasRequest, Success, NasResponse, Stop, Other}
 use Rattle.response.specs.Response.{response, writeRefusal, writtenPacket}
 use Rattle.timer.specs.Timer.{timerNumbers, timerOf}
-use Rattle.packets.specs.declared.Six.{Six}
 
 -- the refusal number or 0, the six numbers, the packet buffer whole, which is empty where the call has none
 pub record PacketAnswer : Type 0 where
@@ -26,10 +25,6 @@ pub record PacketAnswer : Type 0 where
 -- what a call returned: its number, the six numbers, and its buffer
 unfoldable pub packetReturned : ℕ → List ℕ → List ℕ → PacketAnswer
 packetReturned n fields buffer = record { refusal = n; fields = fields; buffer = buffer }
-
--- the answer that the code's struct and the buffer hold
-abbrev pub packetAnswer : Six → List ℕ → PacketAnswer
-packetAnswer r buffer = packetReturned (r .refusal) (r .fields) buffer
 
 -- a refused call leaves six zeros, and zeros in a buffer of so many octets
 unfoldable pub refusedBy : ℕ → ℕ → PacketAnswer

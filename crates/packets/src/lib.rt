@@ -1,6 +1,10 @@
 // The calls without a table: reading and writing packets, AN-parameters one by one, the timer octet.
 use eap::Packet;
+use eap::is_message;
+use eap::is_nas_request;
+use eap::is_success;
 use octets::number::MOST_OCTET;
+use octets::number::get;
 use parameters::MOST_PARAMETERS;
 use parameters::Parameter;
 use parameters::parameter_at;
@@ -8,101 +12,98 @@ use timer::Timer;
 ghost use mathlib.Core.List.{[]};
 ghost use mathlib.Core.Path.{_≡_};
 ghost use lib.ListN.{length};
-ghost use Rattle.packets.specs.Packets.{fieldsOnly, packetAnswer, readParameter, readRequest, readResponse, readTimer, refusedBy, writeResponse};
-
-// What a call answers: its refusal number or 0, and six numbers.
-pub struct Six {
-    pub refusal: u64,
-    pub fields: [u64; 6],
-}
+ghost use Rattle.packets.specs.Packets.{fieldsOnly, packetReturned, readParameter, readRequest, readResponse, readTimer, refusedBy, writeResponse};
 
 // A refused call answers six zeros.
-fn refused(number: u64) -> Six
-    ensures { λ r. ⌜ packetAnswer r [] ≡ refusedBy number 0 ⌝ }
+fn refused(number: u64, fields: &mut [u64; 6]) -> u64
+    ensures { λ r. ⌜ packetReturned r (now (fields .exit)) [] ≡ refusedBy number 0 ⌝ }
 {
-    Six {
-        refusal: number,
-        fields: [0; 6],
-    }
+    *fields = [0; 6];
+    number
 }
 
 // An accepted one answers its numbers.
-fn accepted(fields: [u64; 6]) -> Six
-    ensures { λ r. ⌜ packetAnswer r [] ≡ fieldsOnly fields ⌝ }
+fn accepted(numbers: [u64; 6], fields: &mut [u64; 6]) -> u64
+    ensures { λ r. ⌜ packetReturned r (now (fields .exit)) [] ≡ fieldsOnly numbers ⌝ }
 {
-    Six { refusal: 0, fields }
+    *fields = numbers;
+    0
 }
 
 // Reads Start, a NAS request or Success.
-pub fn read_request(packet: &[u8]) -> Six
-    ensures { λ r. ⌜ packetAnswer r [] ≡ readRequest (now (packet .entry)) ⌝ }
+pub fn read_request(packet: &[u8], fields: &mut [u64; 6]) -> u64
+    ensures { λ r. ⌜ packetReturned r (now (fields .exit)) [] ≡ readRequest (now (packet .entry)) ⌝ }
 {
-    match eap::read(packet) {
-        Packet::Start { identifier } => accepted([1, identifier, 0, 0, 0, 0]),
-        Packet::NasRequest {
-            identifier,
-            nas,
-            nas_length,
-        } => accepted([2, identifier, 0, 0, nas as u64, nas_length as u64]),
-        Packet::Success { identifier } => accepted([3, identifier, 0, 0, 0, 0]),
-        Packet::NasResponse {
-            identifier: _,
-            parameters: _,
-            parameters_length: _,
-            nas: _,
-            nas_length: _,
-        } => refused(9),
-        Packet::Stop { identifier: _ } => refused(9),
-        Packet::Other => refused(9),
+    if is_message(packet, 1, 1) {
+        return accepted([1, get(packet, 1, 1), 0, 0, 0, 0], fields);
     }
+    if is_nas_request(packet) {
+        return accepted([2, get(packet, 1, 1), 0, 0, 16, get(packet, 14, 2)], fields);
+    }
+    if is_success(packet) {
+        return accepted([3, get(packet, 1, 1), 0, 0, 0, 0], fields);
+    }
+    refused(9, fields)
 }
 
 // Reads a NAS response.
-pub fn read_response(packet: &[u8]) -> Six
-    ensures { λ r. ⌜ packetAnswer r [] ≡ readResponse (now (packet .entry)) ⌝ }
+pub fn read_response(packet: &[u8], fields: &mut [u64; 6]) -> u64
+    ensures { λ r. ⌜ packetReturned r (now (fields .exit)) [] ≡ readResponse (now (packet .entry)) ⌝ }
 {
+    if !is_message(packet, 2, 2) {
+        return refused(9, fields);
+    }
     let Packet::NasResponse {
         identifier,
         parameters,
         parameters_length,
         nas,
         nas_length,
-    } = eap::read(packet)
+    } = eap::read_response(packet)
     else {
-        return refused(9);
+        return refused(9, fields);
     };
-    accepted([
-        2,
-        identifier,
-        parameters as u64,
-        parameters_length as u64,
-        nas as u64,
-        nas_length as u64,
-    ])
+    accepted(
+        [
+            2,
+            identifier,
+            parameters as u64,
+            parameters_length as u64,
+            nas as u64,
+            nas_length as u64,
+        ],
+        fields,
+    )
 }
 
 // Writes a NAS response and zeros after it, or zeros alone.
-pub fn write_response(identifier: u64, parameters: &[u8], nas: &[u8], packet: &mut [u8]) -> Six
-    ensures { λ r. ⌜ packetAnswer r (now (packet .exit)) ≡ writeResponse identifier (now (parameters .entry)) (now (nas .entry)) (length (now (packet .entry))) ⌝ }
+pub fn write_response(
+    identifier: u64,
+    parameters: &[u8],
+    nas: &[u8],
+    packet: &mut [u8],
+    fields: &mut [u64; 6],
+) -> u64
+    ensures { λ r. ⌜ packetReturned r (now (fields .exit)) (now (packet .exit)) ≡ writeResponse identifier (now (parameters .entry)) (now (nas .entry)) (length (now (packet .entry))) ⌝ }
 {
     let number = response::write_response(identifier, parameters, nas, packet);
     if number != 0 {
-        return refused(number);
+        return refused(number, fields);
     }
     let n = parameters.len() as u64;
-    accepted([2, identifier, 16, n, 18 + n, nas.len() as u64])
+    accepted([2, identifier, 16, n, 18 + n, nas.len() as u64], fields)
 }
 
 // Reads the AN-parameter at a place.
-pub fn read_parameter(parameters: &[u8], at: u64) -> Six
-    ensures { λ r. ⌜ packetAnswer r [] ≡ readParameter (now (parameters .entry)) at ⌝ }
+pub fn read_parameter(parameters: &[u8], at: u64, fields: &mut [u64; 6]) -> u64
+    ensures { λ r. ⌜ packetReturned r (now (fields .exit)) [] ≡ readParameter (now (parameters .entry)) at ⌝ }
 {
     let n = parameters.len();
     if MOST_PARAMETERS < n {
-        return refused(8);
+        return refused(8, fields);
     }
     if (n as u64) < at {
-        return refused(8);
+        return refused(8, fields);
     }
     match parameter_at(parameters, at as usize) {
         Parameter::Whole {
@@ -110,22 +111,25 @@ pub fn read_parameter(parameters: &[u8], at: u64) -> Six
             start,
             length,
             next,
-        } => accepted([1, kind, start as u64, length as u64, next as u64, 0]),
-        Parameter::End => accepted([0; 6]),
-        Parameter::Broken => refused(9),
+        } => accepted(
+            [1, kind, start as u64, length as u64, next as u64, 0],
+            fields,
+        ),
+        Parameter::End => accepted([0; 6], fields),
+        Parameter::Broken => refused(9, fields),
     }
 }
 
 // Reads a timer octet.
-pub fn read_timer(octet: u64) -> Six
-    ensures { λ r. ⌜ packetAnswer r [] ≡ readTimer octet ⌝ }
+pub fn read_timer(octet: u64, fields: &mut [u64; 6]) -> u64
+    ensures { λ r. ⌜ packetReturned r (now (fields .exit)) [] ≡ readTimer octet ⌝ }
 {
     if MOST_OCTET < octet {
-        return refused(8);
+        return refused(8, fields);
     }
     match timer::read(octet as u8) {
-        Timer::None => accepted([0; 6]),
-        Timer::Seconds(n) => accepted([1, n, 0, 0, 0, 0]),
-        Timer::Deactivated => accepted([2, 0, 0, 0, 0, 0]),
+        Timer::None => accepted([0; 6], fields),
+        Timer::Seconds(n) => accepted([1, n, 0, 0, 0, 0], fields),
+        Timer::Deactivated => accepted([2, 0, 0, 0, 0, 0], fields),
     }
 }

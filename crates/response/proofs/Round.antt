@@ -141,7 +141,7 @@ module _ (l : List ℕ) (octets : allOf (below 256) l ≡ true) (r : isNasRespon
   not-refused =
       let fits : InRange (part l 16 m) (part l (nasPlace l + 2) n) =
       record { parameters-short = rw parameters-size (parameters .1); nas-some = rw nas-size (nas .1); nas-short = rw nas-size (nas .2) } in
-      sym (by-parameters (identifier l) (part l 16 m) (part l (nasPlace l + 2) n) 3090 (omega arith) (omega (arith, field-below l octets 1 1 (omega (arith, h .enough))))
+      sym (by-parameters (identifier l) (part l 16 m) (part l (nasPlace l + 2) n) 3090 (omega arith) (omega (arith, field-below l octets 1 1 (omega (arith, h .expanded .enough))))
       (not-out (part l 16 m) (part l (nasPlace l + 2) n) fits) (parameters .2))
 
   -- octets that follow one another in the packet
@@ -150,7 +150,7 @@ module _ (l : List ℕ) (octets : allOf (below 256) l ≡ true) (r : isNasRespon
 
   -- a field within the header is written as its octets
   back : (at w x : ℕ) → at + w ≤ 14 → x ≡ field l at w → be w x ≡ part l at w
-  back at w x k e = ap (be w) e ∙ be-field l octets at w (omega (arith, h .enough))
+  back at w x k e = ap (be w) e ∙ be-field l octets at w (omega (arith, h .expanded .enough))
 
   module _ (plain : spare l ≡ 0) (exact : nasPlace l + 2 + n ≡ length l) where
     total : 18 + length (part l 16 m) + length (part l (nasPlace l + 2) n) ≡ length l
@@ -161,10 +161,10 @@ module _ (l : List ℕ) (octets : allOf (below 256) l ≡ true) (r : isNasRespon
     unfolding header code identifier lengthField typeField vendor vendorType message spare
     header-back =
         let f₂ = follow 0 1 1 (back 0 1 2 (omega arith) (sym (h .code-is))) (back 1 1 (identifier l) (omega arith) refl) in
-        let f₃ = follow 0 2 2 f₂ (back 2 2 (18 + length (part l 16 m) + length (part l (nasPlace l + 2) n)) (omega arith) (total ∙ sym (h .whole))) in
-        let f₄ = follow 0 4 1 f₃ (back 4 1 254 (omega arith) (sym (h .type))) in
-        let f₅ = follow 0 5 3 f₄ (back 5 3 10415 (omega arith) (sym (h .from))) in
-        let f₆ = follow 0 8 4 f₅ (back 8 4 3 (omega arith) (sym (h .method))) in
+        let f₃ = follow 0 2 2 f₂ (back 2 2 (18 + length (part l 16 m) + length (part l (nasPlace l + 2) n)) (omega arith) (total ∙ sym (h .expanded .whole))) in
+        let f₄ = follow 0 4 1 f₃ (back 4 1 254 (omega arith) (sym (h .expanded .type))) in
+        let f₅ = follow 0 5 3 f₄ (back 5 3 10415 (omega arith) (sym (h .expanded .from))) in
+        let f₆ = follow 0 8 4 f₅ (back 8 4 3 (omega arith) (sym (h .expanded .method))) in
         let f₇ = follow 0 12 1 f₆ (back 12 1 2 (omega arith) (sym (h .message-is))) in
         follow 0 13 1 f₇ (back 13 1 0 (omega arith) (sym plain))
 

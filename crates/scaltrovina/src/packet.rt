@@ -14,10 +14,7 @@ ghost use Rattle.packets.specs.Packets.{packetReturned, readParameter, readRequ
 pub extern "C" fn scal_read_request(packet: &[u8], fields: &mut [u64; 6]) -> u64
     ensures { λ r. ⌜ packetReturned r (now (fields .exit)) [] ≡ readRequest (now (packet .entry)) ⌝ }
 {
-    let six = read_request(packet);
-    let numbers = six.fields;
-    *fields = numbers;
-    six.refusal
+    read_request(packet, fields)
 }
 
 // Reads a NAS response.
@@ -25,10 +22,7 @@ pub extern "C" fn scal_read_request(packet: &[u8], fields: &mut [u64; 6]) -> u64
 pub extern "C" fn scal_read_response(packet: &[u8], fields: &mut [u64; 6]) -> u64
     ensures { λ r. ⌜ packetReturned r (now (fields .exit)) [] ≡ readResponse (now (packet .entry)) ⌝ }
 {
-    let six = read_response(packet);
-    let numbers = six.fields;
-    *fields = numbers;
-    six.refusal
+    read_response(packet, fields)
 }
 
 // Writes a NAS response.
@@ -42,10 +36,7 @@ pub extern "C" fn scal_write_response(
 ) -> u64
     ensures { λ r. ⌜ packetReturned r (now (fields .exit)) (now (packet .exit)) ≡ writeResponse identifier (now (parameters .entry)) (now (nas .entry)) (length (now (packet .entry))) ⌝ }
 {
-    let six = write_response(identifier, parameters, nas, packet);
-    let numbers = six.fields;
-    *fields = numbers;
-    six.refusal
+    write_response(identifier, parameters, nas, packet, fields)
 }
 
 // Reads the AN-parameter at a place of a block.
@@ -53,10 +44,7 @@ pub extern "C" fn scal_write_response(
 pub extern "C" fn scal_parameter(parameters: &[u8], at: u64, fields: &mut [u64; 6]) -> u64
     ensures { λ r. ⌜ packetReturned r (now (fields .exit)) [] ≡ readParameter (now (parameters .entry)) at ⌝ }
 {
-    let six = read_parameter(parameters, at);
-    let numbers = six.fields;
-    *fields = numbers;
-    six.refusal
+    read_parameter(parameters, at, fields)
 }
 
 // Reads a back-off timer octet.
@@ -64,8 +52,5 @@ pub extern "C" fn scal_parameter(parameters: &[u8], at: u64, fields: &mut [u64; 
 pub extern "C" fn scal_timer(octet: u64, fields: &mut [u64; 6]) -> u64
     ensures { λ r. ⌜ packetReturned r (now (fields .exit)) [] ≡ readTimer octet ⌝ }
 {
-    let six = read_timer(octet);
-    let numbers = six.fields;
-    *fields = numbers;
-    six.refusal
+    read_timer(octet, fields)
 }

@@ -1,92 +1,115 @@
--- `eap::read` meets its contract: four octets, the header, the code and the message pick the case.
-use mathlib.Core.Path.{sym, ap, _∙_}
+-- `eap::read` meets its contract: the tests that the packet passes pick the case.
+use Prim.Native.Nat.{ℕ}
+use mathlib.Core.Path.{sym, ap, ap₂, _∙_}
 use native.Mathlib.Omega.{arith}
 use borrow.Author.Needs.{needs}
-use borrow.Author.Tests.{not-true, not-false}
-use Rattle.eap.specs.Packet.{code, identifier, message}
-use Rattle.eap.specs.declared.Packet.the-variants.{Start, Stop}
-use Rattle.eap.proofs.Headers.{expanded-length, no-header, start, nas-request, other-request, nas-response, stop, other-response, other-code}
+use Rattle.eap.specs.Packet.{identifier}
+use Rattle.eap.specs.declared.Packet.the-variants.{Start, NasRequest, Success, Stop}
+use Rattle.eap.proofs.Reading.{header-facts, other-is, request-is, request-long, response-is, start-is, stop-is, success-is, success-long}
 use Rattle.eap.proofs.read.Statement.{statement}
 use Rattle.eap.proofs.read.Tie as tie
 
-read-success-requires : tie.Need-read-success-requires
-read-success-requires c κs = search needs
-
-returns : tie.Need-returns
-returns c = c .read-success .ensures
-
-is-expanded-requires : tie.Need-is-expanded-requires
-is-expanded-requires c κs = search needs
-
-returns-2 : tie.Need-returns-2
-returns-2 c = no-header _ (c .before .before .if1 .left) (sym (c .before .is-expanded .ensures) ∙ not-true (c .before .is-expanded .result) (c .if2 .taken))
+is-message-requires : tie.Need-is-message-requires
+is-message-requires c κs = search needs
 
 get-requires : tie.Need-get-requires
 get-requires c κs =
-    let h = expanded-length _ (sym (c .before .is-expanded .ensures) ∙ not-false (c .before .is-expanded .result) (c .if2 .left)) in
+    let h = header-facts _ 1 1 (sym (c .before .is-message .ensures) ∙ c .if1 .taken) .expanded .enough in
     omega arith
+
+returns : tie.Need-returns
+unfolding identifier
+returns c = ap Start (c .get .ensures .0) ∙ start-is _ (sym (c .before .before .is-message .ensures) ∙ c .before .if1 .taken)
+
+is-nas-request-requires : tie.Need-is-nas-request-requires
+is-nas-request-requires c κs = search needs
 
 get-requires-2 : tie.Need-get-requires-2
 get-requires-2 c κs =
-    let h = expanded-length _ (sym (c .before .before .is-expanded .ensures) ∙ not-false (c .before .before .is-expanded .result) (c .before .if2 .left)) in
+    let h = request-long _ (sym (c .before .is-nas-request .ensures) ∙ c .if2 .taken) in
     omega arith
 
 get-requires-3 : tie.Need-get-requires-3
 get-requires-3 c κs =
-    let h = expanded-length _ (sym (c .before .before .before .is-expanded .ensures) ∙ not-false (c .before .before .before .is-expanded .result) (c .before .before .if2 .left)) in
+    let h = request-long _ (sym (c .before .before .is-nas-request .ensures) ∙ c .before .if2 .taken) in
+    omega arith
+
+returns-2 : tie.Need-returns-2
+unfolding identifier
+returns-2 c =
+    let tested = c .before .before .before .before in
+    ap₂ (λ (i n : ℕ). NasRequest i 16 n) (c .before .get2 .ensures .0) (c .get3 .ensures .0)
+    ∙ request-is _ (sym (tested .before .is-message .ensures) ∙ tested .if1 .left) (sym (c .before .before .before .is-nas-request .ensures) ∙ c .before .before .if2 .taken)
+
+is-success-requires : tie.Need-is-success-requires
+is-success-requires c κs = search needs
+
+get-requires-4 : tie.Need-get-requires-4
+get-requires-4 c κs =
+    let h = success-long _ (sym (c .before .is-success .ensures) ∙ c .if3 .taken) in
     omega arith
 
 returns-3 : tie.Need-returns-3
-unfolding code identifier message
-returns-3 c = ap Start (c .before .before .before .get2 .ensures .0) ∙ start _ (c .before .before .before .before .before .before .before .if1 .left) (sym (c .before .before .before .before .before .before .is-expanded .ensures) ∙ not-false (c .before .before .before .before .before .before .is-expanded .result) (c .before .before .before .before .before .if2 .left)) (sym (c .before .before .before .before .get .ensures .0) ∙ c .before .if3 .taken) (sym (c .before .before .get3 .ensures .0) ∙ c .if4 .taken)
+unfolding identifier
+returns-3 c = ap Success (c .get4 .ensures .0) ∙ success-is _ (sym (c .before .before .is-success .ensures) ∙ c .before .if3 .taken)
 
-read-request-requires : tie.Need-read-request-requires
-read-request-requires c κs = expanded-length _ (sym (c .before .before .before .before .before .before .before .is-expanded .ensures) ∙ not-false (c .before .before .before .before .before .before .before .is-expanded .result) (c .before .before .before .before .before .before .if2 .left))
-
-returns-4 : tie.Need-returns-4
-unfolding code identifier message
-returns-4 c = c .read-request .ensures ∙ nas-request _ (c .before .before .before .before .before .before .before .before .before .if1 .left) (sym (c .before .before .before .before .before .before .before .before .is-expanded .ensures) ∙ not-false (c .before .before .before .before .before .before .before .before .is-expanded .result) (c .before .before .before .before .before .before .before .if2 .left)) (sym (c .before .before .before .before .before .before .get .ensures .0) ∙ c .before .before .before .if3 .taken) (sym (c .before .before .before .before .get3 .ensures .0) ∙ c .before .if5 .taken)
-
-returns-5 : tie.Need-returns-5
-unfolding code identifier message
-returns-5 c = other-request _ (c .before .before .before .before .before .before .before .before .if1 .left) (sym (c .before .before .before .before .before .before .before .is-expanded .ensures) ∙ not-false (c .before .before .before .before .before .before .before .is-expanded .result) (c .before .before .before .before .before .before .if2 .left)) (sym (c .before .before .before .before .before .get .ensures .0) ∙ c .before .before .if3 .taken) (λ e. c .before .if4 .left (c .before .before .before .get3 .ensures .0 ∙ e)) (λ e. c .if5 .left (c .before .before .before .get3 .ensures .0 ∙ e))
+is-message-requires-2 : tie.Need-is-message-requires-2
+is-message-requires-2 c κs = search needs
 
 read-response-requires : tie.Need-read-response-requires
-read-response-requires c κs = expanded-length _ (sym (c .before .before .before .before .before .before .before .is-expanded .ensures) ∙ not-false (c .before .before .before .before .before .before .before .is-expanded .result) (c .before .before .before .before .before .before .if2 .left))
+read-response-requires c κs = header-facts _ 2 2 (sym (c .before .is-message2 .ensures) ∙ c .if4 .taken) .expanded .enough
+
+returns-4 : tie.Need-returns-4
+returns-4 c = c .read-response .ensures ∙ response-is _ (sym (c .before .before .is-message2 .ensures) ∙ c .before .if4 .taken)
+
+is-message-requires-3 : tie.Need-is-message-requires-3
+is-message-requires-3 c κs = search needs
+
+get-requires-5 : tie.Need-get-requires-5
+get-requires-5 c κs =
+    let h = header-facts _ 2 4 (sym (c .before .is-message3 .ensures) ∙ c .if5 .taken) .expanded .enough in
+    omega arith
+
+returns-5 : tie.Need-returns-5
+unfolding identifier
+returns-5 c =
+    let fourth = c .before .before .before in
+    let third = fourth .before .before in
+    let second = third .before .before in
+    let first = second .before .before in
+    ap Stop (c .get5 .ensures .0)
+    ∙ stop-is _ (sym (first .before .is-message .ensures) ∙ first .if1 .left) (sym (second .before .is-nas-request .ensures) ∙ second .if2 .left)
+    (sym (third .before .is-success .ensures) ∙ third .if3 .left) (sym (fourth .before .is-message2 .ensures) ∙ fourth .if4 .left)
+    (sym (c .before .before .is-message3 .ensures) ∙ c .before .if5 .taken)
 
 returns-6 : tie.Need-returns-6
-unfolding code identifier message
-returns-6 c = c .read-response .ensures ∙ nas-response _ (c .before .before .before .before .before .before .before .before .before .if1 .left) (sym (c .before .before .before .before .before .before .before .before .is-expanded .ensures) ∙ not-false (c .before .before .before .before .before .before .before .before .is-expanded .result) (c .before .before .before .before .before .before .before .if2 .left)) (sym (c .before .before .before .before .before .before .get .ensures .0) ∙ c .before .before .if6 .taken) (sym (c .before .before .before .before .get3 .ensures .0) ∙ c .before .if7 .taken)
-
-returns-7 : tie.Need-returns-7
-unfolding code identifier message
-returns-7 c = ap Stop (c .before .before .before .before .before .get2 .ensures .0) ∙ stop _ (c .before .before .before .before .before .before .before .before .before .if1 .left) (sym (c .before .before .before .before .before .before .before .before .is-expanded .ensures) ∙ not-false (c .before .before .before .before .before .before .before .before .is-expanded .result) (c .before .before .before .before .before .before .before .if2 .left)) (sym (c .before .before .before .before .before .before .get .ensures .0) ∙ c .before .before .if6 .taken) (sym (c .before .before .before .before .get3 .ensures .0) ∙ c .if8 .taken)
-
-returns-8 : tie.Need-returns-8
-unfolding code identifier message
-returns-8 c = other-response _ (c .before .before .before .before .before .before .before .before .before .if1 .left) (sym (c .before .before .before .before .before .before .before .before .is-expanded .ensures) ∙ not-false (c .before .before .before .before .before .before .before .before .is-expanded .result) (c .before .before .before .before .before .before .before .if2 .left)) (sym (c .before .before .before .before .before .before .get .ensures .0) ∙ c .before .before .if6 .taken) (λ e. c .before .if7 .left (c .before .before .before .before .get3 .ensures .0 ∙ e)) (λ e. c .if8 .left (c .before .before .before .before .get3 .ensures .0 ∙ e))
-
-returns-9 : tie.Need-returns-9
-unfolding code identifier message
-returns-9 c = other-code _ (c .before .before .before .before .before .before .before .if1 .left) (sym (c .before .before .before .before .before .before .is-expanded .ensures) ∙ not-false (c .before .before .before .before .before .before .is-expanded .result) (c .before .before .before .before .before .if2 .left)) (λ e. c .before .if3 .left (c .before .before .before .before .get .ensures .0 ∙ e)) (λ e. c .if6 .left (c .before .before .before .before .get .ensures .0 ∙ e))
+returns-6 c =
+    let fourth = c .before .before in
+    let third = fourth .before .before in
+    let second = third .before .before in
+    let first = second .before .before in
+    other-is _ (sym (first .before .is-message .ensures) ∙ first .if1 .left) (sym (second .before .is-nas-request .ensures) ∙ second .if2 .left)
+    (sym (third .before .is-success .ensures) ∙ third .if3 .left) (sym (fourth .before .is-message2 .ensures) ∙ fourth .if4 .left)
+    (sym (c .before .is-message3 .ensures) ∙ c .if5 .left)
 
 pub read-spec : {M : Type 1} → statement M
 read-spec =
     tie.close
     (tie.spec
-    read-success-requires
-    returns
-    is-expanded-requires
-    returns-2
+    is-message-requires
     get-requires
+    returns
+    is-nas-request-requires
     get-requires-2
     get-requires-3
+    returns-2
+    is-success-requires
+    get-requires-4
     returns-3
-    read-request-requires
-    returns-4
-    returns-5
+    is-message-requires-2
     read-response-requires
-    returns-6
-    returns-7
-    returns-8
-    returns-9)
+    returns-4
+    is-message-requires-3
+    get-requires-5
+    returns-5
+    returns-6)

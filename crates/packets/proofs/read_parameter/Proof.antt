@@ -12,13 +12,13 @@ refused-requires : tie.Need-refused-requires
 refused-requires c κs = search needs
 
 returns : tie.Need-returns
-returns c = c .refused .ensures ∙ too-long _ _ (c .before .if1 .taken)
+returns c = c .refused .ensures ∙ too-long _ _ (c .before .before .if1 .taken)
 
 refused-requires-2 : tie.Need-refused-requires-2
 refused-requires-2 c κs = search needs
 
 returns-2 : tie.Need-returns-2
-returns-2 c = c .refused2 .ensures ∙ past-end _ _ (c .before .before .if1 .left) (c .before .if2 .taken)
+returns-2 c = c .refused2 .ensures ∙ past-end _ _ (c .before .before .before .if1 .left) (c .before .before .if2 .taken)
 
 parameter-at-requires : tie.Need-parameter-at-requires
 parameter-at-requires c κs = search needs
@@ -44,20 +44,20 @@ refused-requires-3 c κs = search needs
 returns-3 : tie.Need-returns-3
 unfolding unlessRefused refusal isBroken parameterNumbers
 returns-3 c =
-    let read = c .before .before .before .before in
-    c .accepted .ensures ∙ at-place _ _ (read .before .before .if1 .left) (read .before .if2 .left) _ (sym (c .before .before .kind .given .1) ∙ read .parameter-at .ensures)
+    let read = c .before .before .before .before .before in
+    c .accepted .ensures ∙ at-place _ _ (read .before .before .if1 .left) (read .before .if2 .left) _ (sym (c .before .before .before .kind .given .1) ∙ read .parameter-at .ensures)
 
 returns-4 : tie.Need-returns-4
 unfolding unlessRefused refusal isBroken parameterNumbers zeros
 returns-4 c =
-    let read = c .before .before .before in
-    c .accepted2 .ensures ∙ at-place _ _ (read .before .before .if1 .left) (read .before .if2 .left) _ (sym (c .before .enum-told .given .1) ∙ read .parameter-at .ensures)
+    let read = c .before .before .before .before in
+    c .accepted2 .ensures ∙ at-place _ _ (read .before .before .if1 .left) (read .before .if2 .left) _ (sym (c .before .before .enum-told .given .1) ∙ read .parameter-at .ensures)
 
 returns-5 : tie.Need-returns-5
 unfolding unlessRefused refusal isBroken parameterNumbers
 returns-5 c =
-    let read = c .before .before .before in
-    c .refused3 .ensures ∙ at-place _ _ (read .before .before .if1 .left) (read .before .if2 .left) _ (sym (c .before .enum-told2 .given .1) ∙ read .parameter-at .ensures)
+    let read = c .before .before .before .before in
+    c .refused3 .ensures ∙ at-place _ _ (read .before .before .if1 .left) (read .before .if2 .left) _ (sym (c .before .before .enum-told2 .given .1) ∙ read .parameter-at .ensures)
 
 pub read-parameter-spec : {M : Type 1} → statement M
 read-parameter-spec =

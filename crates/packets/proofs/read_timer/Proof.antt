@@ -11,7 +11,7 @@ refused-requires : tie.Need-refused-requires
 refused-requires c κs = search needs
 
 returns : tie.Need-returns
-returns c = c .refused .ensures ∙ no-octet _ (c .before .if1 .taken)
+returns c = c .refused .ensures ∙ no-octet _ (c .before .before .if1 .taken)
 
 cast-read : tie.Need-cast-read
 cast-read c = search needs
@@ -39,15 +39,15 @@ accepted-requires-3 c κs = search needs
 
 returns-2 : tie.Need-returns-2
 unfolding timerNumbers padded zeros
-returns-2 c = c .accepted .ensures ∙ says _ (c .before .before .before .before .if1 .left) _ (sym (c .before .enum-told .given .1) ∙ c .before .before .before .read .ensures)
+returns-2 c = c .accepted .ensures ∙ says _ (c .before .before .before .before .before .if1 .left) _ (sym (c .before .before .enum-told .given .1) ∙ c .before .before .before .before .read .ensures)
 
 returns-3 : tie.Need-returns-3
 unfolding timerNumbers padded zeros
-returns-3 c = c .accepted2 .ensures ∙ says _ (c .before .before .before .before .before .if1 .left) _ (sym (c .before .before .n .given .1) ∙ c .before .before .before .before .read .ensures)
+returns-3 c = c .accepted2 .ensures ∙ says _ (c .before .before .before .before .before .before .if1 .left) _ (sym (c .before .before .before .n .given .1) ∙ c .before .before .before .before .before .read .ensures)
 
 returns-4 : tie.Need-returns-4
 unfolding timerNumbers padded zeros
-returns-4 c = c .accepted3 .ensures ∙ says _ (c .before .before .before .before .if1 .left) _ (sym (c .before .enum-told2 .given .1) ∙ c .before .before .before .read .ensures)
+returns-4 c = c .accepted3 .ensures ∙ says _ (c .before .before .before .before .before .if1 .left) _ (sym (c .before .before .enum-told2 .given .1) ∙ c .before .before .before .before .read .ensures)
 
 pub read-timer-spec : {M : Type 1} → statement M
 read-timer-spec =

@@ -17,11 +17,11 @@ same-length c = search needs
 
 returns : tie.Need-returns
 returns c =
-    let write = c .before .before .before .before .write-response in
-    not-written _ _ _ _ _ (write .ensures .1) _ _ (c .before .if1 .taken) (write .ensures .0) (c .refused .ensures)
+    let write = c .before .before .before .before .before .write-response in
+    not-written _ _ _ _ _ (write .ensures .1) _ _ _ (c .before .before .if1 .taken) (write .ensures .0) (c .refused .ensures)
 
-add-t11 : tie.Need-add-t11
-add-t11 c = search needs
+add-t13 : tie.Need-add-t13
+add-t13 c = search needs
 
 accepted-requires : tie.Need-accepted-requires
 accepted-requires c κs = search needs
@@ -32,8 +32,8 @@ same-length-2 c = search needs
 returns-2 : tie.Need-returns-2
 unfolding packetNumbers writtenPacket
 returns-2 c =
-    let write = c .before .before .before .before .write-response in
-    is-written _ _ _ _ _ (write .ensures .1) _ _ (c .before .if1 .left) (write .ensures .0) (c .accepted .ensures)
+    let write = c .before .before .before .before .before .write-response in
+    is-written _ _ _ _ _ (write .ensures .1) _ _ _ (c .before .before .if1 .left) (write .ensures .0) (c .accepted .ensures)
 
 pub write-response-spec : {M : Type 1} → statement M
 write-response-spec =
@@ -43,7 +43,7 @@ write-response-spec =
     refused-requires
     same-length
     returns
-    add-t11
+    add-t13
     accepted-requires
     same-length-2
     returns-2)
