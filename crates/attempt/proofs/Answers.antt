@@ -1,12 +1,12 @@
 -- What a step answers that may ask a name, by its refusal number.
 use Prim.Native.Nat.{ℕ, zero, suc}
 use mathlib.Core.List.{List, []}
-use mathlib.Core.Path.{_≡_, refl, ap, ap₂, _∙_}
+use mathlib.Core.Path.{_≡_, refl, sym, ap, ap₂, _∙_}
 use native.Mathlib.Omega.{arith}
 use lib.Dec.{ltb}
 use Rattle.octets.specs.Part.{padded, part, zeros}
 use Rattle.octets.specs.Refusal.{refusal}
-use Rattle.record.specs.Changes.{current}
+use Rattle.record.specs.Changes.{current, inPhase}
 use Rattle.record.specs.Line.{lineOf, InArrays}
 use Rattle.record.specs.declared.Record.{Record}
 use Rattle.rules.specs.Answer.{eventRoom, lentIn, numbersOf, partNamed, PartWithin, twelve}
@@ -19,6 +19,7 @@ use Rattle.step.specs.Step.{Gives, effect, effectIn}
 use Rattle.step.specs.declared.Stepped.{Stepped}
 use Rattle.step.proofs.Steps.{taken, turned-away}
 use Rattle.attempt.specs.Attempt.{Says}
+use Rattle.attempt.specs.declared.Move.{Move}
 
 -- the event comes to the answer, whose part lies in the lent octets
 abbrev pub Answers : Event → ℕ → Record → Stepped → List ℕ → List ℕ → Type 0
@@ -53,8 +54,10 @@ module _ (e : Event) (time : ℕ) (line f : Record) (r : Stepped) (text name : L
 
   -- it is accepted
   pub carried-out : refusal (refusalsOf e (ltb lastTime time) (lineOf f)) ≡ 0 → (o : Outcome) → outcome e (lineOf f) ≡ o → (room : ℕ) → room ≡ eventRoom e
-      → Says r o text name room → Answers e time line r text name
-  carried-out number o is room sized s = (
-    ap₂ (effectIn r) (s .part-is) (s .name-is ∙ ap (λ (k : ℕ). padded k (o .written)) sized) ∙ taken e time line f r is-found number o is (s .gives),
-    (s .part-within, s .gives .in-arrays),
-  )
+      → (m : Move) → Says m (lineOf f) o text name room → Gives r 0 (inPhase (lineOf f) (m .phase)) (m .action) → Answers e time line r text name
+  carried-out number o is room sized m s g =
+      let gives : Gives r 0 (o .line) (o .action) = record { refusal-is = g .refusal-is; line-is = g .line-is ∙ sym (s .line-is); action-is = g .action-is ∙ s .action-is; in-arrays = g .in-arrays } in (
+        ap₂ (effectIn r) (ap (λ (a : Action). partNamed (numbersOf a) text name []) (g .action-is) ∙ s .part-is) (s .name-is ∙ ap (λ (k : ℕ). padded k (o .written)) sized)
+            ∙ taken e time line f r is-found number o is gives,
+        (rw (g .action-is) (s .part-within), g .in-arrays),
+      )

@@ -2,38 +2,32 @@
 use Prim.Native.Nat.{ℕ}
 use mathlib.Core.List.{List}
 use mathlib.Core.Option.{Option, some}
-use mathlib.Core.Path.{_≡_, refl, sym, ap, ap₂, _∙_}
+use mathlib.Core.Path.{_≡_, sym, ap, ap₂, _∙_}
 use lib.Dec.{eqb}
 use Rattle.address.specs.Address.{heldAddresses}
 use Rattle.config.specs.Settings.{Settings, configOf}
 use Rattle.gateway.specs.Gateway.{choose}
 use Rattle.gateway.specs.declared.Found.{Found}
-use Rattle.gateway.specs.declared.Found.the-variants.{Chosen, Nothing}
 use Rattle.lists.specs.Lists.{addressesIn, networksIn}
 use Rattle.phase.specs.declared.Phase.{Phase}
 use Rattle.phase.specs.declared.Phase.the-variants.{Country, Name}
 use Rattle.place.specs.declared.Facts.{Facts}
 use Rattle.record.specs.Line.{Line}
 use Rattle.rules.specs.Call.{address, country, factsOf, start}
-use Rattle.rules.specs.Life.{addressAnswered, becomes, countryAnswered, decided, gatewayFound, goes, outcome, started}
+use Rattle.rules.specs.Life.{addressAnswered, countryAnswered, decided, gatewayFound, goes, outcome, started}
 use Rattle.rules.specs.Phases.{factsIn}
 use Rattle.rules.specs.declared.StartNumbers.{StartNumbers}
 use Rattle.selection.specs.Selection as Selection
 use Rattle.selection.specs.declared.Choice.{Choice}
-
--- S5 returns and writes nothing
-found-becomes : (x : Line) (f : Found) → gatewayFound x f ≡ becomes (gatewayFound x f .line) (gatewayFound x f .action)
-unfolding gatewayFound goes
-found-becomes x (Chosen a k) = refl
-found-becomes x (Nothing k) = refl
+use Rattle.attempt.specs.Attempt.{Comes}
+use Rattle.attempt.specs.declared.Move.{Move}
 
 -- the address answer to a line that waits for it
-pub of-addresses : (l : List ℕ) (x : Line) (facts : Facts) (f : Found) → x .phase ≡ Name facts
-    → f ≡ choose (facts .version) (heldAddresses (x .holds)) (addressesIn l)
-    → outcome (address l) x ≡ becomes (gatewayFound x f .line) (gatewayFound x f .action)
+pub of-addresses : (l : List ℕ) (x : Line) (facts : Facts) (f : Found) (r : Move) → x .phase ≡ Name facts
+    → f ≡ choose (facts .version) (heldAddresses (x .holds)) (addressesIn l) → Comes r f → outcome (address l) x ≡ goes x (r .phase) (r .action)
 unfolding outcome addressAnswered factsIn
-of-addresses l x facts f waits e =
-    ap (λ (p : Phase). addressAnswered x (factsIn p) (addressesIn l)) waits ∙ ap (gatewayFound x) (sym e) ∙ found-becomes x f
+of-addresses l x facts f r waits e comes =
+    ap (λ (p : Phase). addressAnswered x (factsIn p) (addressesIn l)) waits ∙ ap (gatewayFound x) (sym e) ∙ comes x
 
 -- start, where the text was read
 pub of-start : (g : StartNumbers) (text : List ℕ) (room : ℕ) (x : Line) (s : Settings) (f : Facts) (c : Choice) → configOf text ≡ some s → f ≡ factsOf g

@@ -1,11 +1,15 @@
 -- What S1 to S4 came to has the part that its action names.
 use Prim.Native.Nat.{ℕ, _+_, _≤_}
-use mathlib.Core.List.{List, []}
+use mathlib.Core.List.{List, [], _∷_}
 use mathlib.Core.Path.{_≡_, refl, sym, ap, _∙_, subst}
 use native.Mathlib.Omega.{arith}
 use lib.ListN.{length}
 use Rattle.octets.specs.Part.{part}
 use Rattle.octets.proofs.Parts.{length-part}
+use Rattle.address.specs.Address.{heldAddresses}
+use Rattle.address.specs.declared.Address as Address
+use Rattle.address.specs.declared.Hold.{Hold}
+use Rattle.gateway.specs.Gateway.{choose}
 use Rattle.gateway.specs.declared.Found.{Found}
 use Rattle.gateway.specs.declared.Found.the-variants as Found
 use Rattle.network.specs.Name.{Named}
@@ -18,12 +22,11 @@ use Rattle.record.specs.Changes.{inPhase}
 use Rattle.record.specs.Line.{Line}
 use Rattle.rules.specs.Answer.{lentIn, numbersOf, partNamed, PartWithin, twelve}
 use Rattle.rules.specs.Life.{Outcome, decided, gatewayFound, goes, nameAsked}
-use Rattle.rules.specs.declared.Action.the-variants.{AskBuilt, AskCountry, AskText}
+use Rattle.rules.specs.declared.Action.the-variants.{AskBuilt, AskCountry, AskText, Stopped}
 use Rattle.selection.specs.declared.Choice.{Choice}
 use Rattle.selection.specs.declared.Choice.the-variants.{Stop, Country, Text, Network, Address}
-use Rattle.step.specs.Step.{Gives}
-use Rattle.step.specs.declared.Stepped.{Stepped}
-use Rattle.attempt.specs.Attempt.{Says}
+use Rattle.attempt.specs.Attempt.{Comes, Says}
+use Rattle.attempt.specs.declared.Move.{Move}
 
 -- an outcome's part is the one that its action names, and its written octets are given
 record Named-by (o : Outcome) (text name written : List ℕ) : Type 0 where
@@ -55,36 +58,48 @@ module _ (x : Line) (text name : List ℕ) where
       record { part-is = built-part _ name n (l .in-name); part-within = built-within _ name n (l .in-name); written-is = refl }
   decided-names f n (Address a) l = found-names _
 
-module _ (r : Stepped) (x : Line) (f : Facts) (text : List ℕ) (c : Choice) where
-  -- the line and the action are those of the outcome
-  abbrev Decides : Type 0
-  Decides = Gives r 0 (decided x f text c .line) (decided x f text c .action)
+module _ (x : Line) (f : Facts) (text : List ℕ) (c : Choice) where
+  -- the phase and the action are those of the outcome
+  abbrev Decides : Move → Type 0
+  Decides r = (decided x f text c .line ≡ inPhase x (r .phase)) × (r .action ≡ decided x f text c .action)
+
+  pub stops : (n : ℕ) → c ≡ Stop n → Decides (record { phase = Phase.Idle; action = Stopped n 0 })
+  unfolding decided goes
+  stops n told = rw told (refl, refl)
 
   -- a name is asked whose length the action says
   module _ (l : List ℕ) (is-asked : l ≡ asked text c) where
-    pub asks-country : (mcc : ℕ) → c ≡ Country mcc → Gives r 0 (inPhase x (Phase.Country f)) (AskCountry (length l)) → Decides
+    pub asks-country : (mcc : ℕ) → c ≡ Country mcc → Decides (record { phase = Phase.Country f; action = AskCountry (length l) })
     unfolding decided nameAsked asked built
-    asks-country mcc told g = rw told (rw (is-asked, told) at g)
+    asks-country mcc told = rw (is-asked, told) (refl, refl)
 
-    pub asks-built : (p : Plmn) → c ≡ Network p → Gives r 0 (inPhase x (Phase.Name f)) (AskBuilt (length l)) → Decides
+    pub asks-built : (p : Plmn) → c ≡ Network p → Decides (record { phase = Phase.Name f; action = AskBuilt (length l) })
     unfolding decided nameAsked asked built
-    asks-built p told g = rw told (rw (is-asked, told) at g)
+    asks-built p told = rw (is-asked, told) (refl, refl)
 
-    pub asks-text : (at n : ℕ) → c ≡ Text at n → TextWithin text c → Gives r 0 (inPhase x (Phase.Name f)) (AskText at (length l)) → Decides
+    pub asks-text : (at n : ℕ) → c ≡ Text at n → TextWithin text c → Decides (record { phase = Phase.Name f; action = AskText at (length l) })
     unfolding decided nameAsked asked
-    asks-text at n told within g =
+    asks-text at n told within =
         let inside : at + n ≤ length text = rw told at within in
-        rw told (rw (is-asked, told, length-part text at n inside) at g)
+        rw (is-asked, told, length-part text at n inside) (refl, refl)
+
+  -- an address is an answer list of one
+  pub answers-one : (hs : List Hold) → x .holds ≡ hs → (a : Address.Address) → c ≡ Address a → (found : Found) → found ≡ choose (f .version) (heldAddresses hs) (a ∷ []) → (r : Move) → Comes r found → Decides r
+  unfolding decided goes
+  answers-one hs held a told found is r comes =
+      let same = ap (λ (l : List Hold). gatewayFound x (choose (f .version) (heldAddresses l) (a ∷ []))) held ∙ ap (gatewayFound x) (sym is) ∙ comes x in
+      rw told (ap (λ (o : Outcome). o .line) same, sym (ap (λ (o : Outcome). o .action) same))
 
   -- the name of the choice was built and lies in its slice
-  pub says : (name : List ℕ) (n room : ℕ) → TextWithin text c → Named (built c) room name n → length name ≡ room → Decides
-      → Says r (decided x f text c) text name room
-  says name n room within named sized gives =
+  pub says : (r : Move) (name : List ℕ) (n room : ℕ) → TextWithin text c → Named (built c) room name n → length name ≡ room → Decides r
+      → Says r x (decided x f text c) text name room
+  says r name n room within named sized decides =
       let l = lies text name n room c within named sized in
       let names = decided-names x text name f n c l in
       record {
-        gives = gives;
-        part-is = rw (gives .action-is) (names .part-is);
-        part-within = rw (gives .action-is) (names .part-within);
+        line-is = decides .0;
+        action-is = decides .1;
+        part-is = rw (decides .1) (names .part-is);
+        part-within = rw (decides .1) (names .part-within);
         name-is = rw (names .written-is) (named .whole);
       }

@@ -1,16 +1,23 @@
--- What a step answers that may ask a name.
+-- What selection comes to, as the code answers it: a phase and an action.
 use Prim.Native.Nat.{ℕ}
 use mathlib.Core.List.{List, []}
 use mathlib.Core.Path.{_≡_}
+use Rattle.gateway.specs.declared.Found.{Found}
 use Rattle.octets.specs.Part.{padded}
+use Rattle.record.specs.Changes.{inPhase}
+use Rattle.record.specs.Line.{Line}
 use Rattle.rules.specs.Answer.{numbersOf, partNamed, PartWithin}
-use Rattle.rules.specs.Life.{Outcome}
-use Rattle.step.specs.Step.{Gives}
-use Rattle.step.specs.declared.Stepped.{Stepped}
+use Rattle.rules.specs.Life.{Outcome, gatewayFound, goes}
+use Rattle.attempt.specs.declared.Move.{Move}
 
--- the code's answer is an outcome: its part is the one that the action names, and the name buffer holds what is written and zeros after it
-pub record Says (r : Stepped) (o : Outcome) (text name : List ℕ) (room : ℕ) : Type 0 where
-  pub gives : Gives r 0 (o .line) (o .action)
+-- what S5 found is the phase and the action, on every line
+abbrev pub Comes : Move → Found → Type 0
+Comes r f = (x : Line) → gatewayFound x f ≡ goes x (r .phase) (r .action)
+
+-- the phase and the action are those of an outcome on a line: its part is the one that the action names, and the name buffer holds what is written and zeros after it
+pub record Says (r : Move) (x : Line) (o : Outcome) (text name : List ℕ) (room : ℕ) : Type 0 where
+  pub line-is : o .line ≡ inPhase x (r .phase)
+  pub action-is : r .action ≡ o .action
   pub part-is : partNamed (numbersOf (r .action)) text name [] ≡ o .part
   pub part-within : PartWithin (numbersOf (r .action)) text name []
   pub name-is : name ≡ padded room (o .written)

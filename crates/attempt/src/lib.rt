@@ -8,6 +8,7 @@ use crate::lent::MaybeFacts;
 use crate::lent::awaiting;
 use crate::lent::read;
 use address::HOLDS;
+use address::Hold;
 use gateway::Found;
 use gateway::choose;
 use gateway::choose_one;
@@ -32,48 +33,72 @@ use step::refused;
 ghost use mathlib.Core.List.{[]};
 ghost use mathlib.Core.Path.{_≡_};
 ghost use Prim.Native.Nat.{_≤_};
-ghost use lib.ListN.{length};
+ghost use lib.ListN.{length, take};
+ghost use Rattle.address.specs.Address.{mostHolds};
 ghost use Rattle.network.specs.Name.{nameRoom};
 ghost use Rattle.query.specs.Query.{TextWithin};
-ghost use Rattle.record.specs.Line.{lineOf, InArrays};
+ghost use Rattle.record.specs.Line.{Line, lineOf, InArrays};
 ghost use Rattle.rules.specs.Answer.{numbersOf, partNamed, PartWithin};
 ghost use Rattle.rules.specs.Call.{address, country, start};
-ghost use Rattle.rules.specs.Life.{decided, gatewayFound};
+ghost use Rattle.rules.specs.Life.{decided};
 ghost use Rattle.rules.specs.Refusals.{badNetworks};
-ghost use Rattle.step.specs.Step.{effect, effectIn, Gives};
-ghost use Rattle.attempt.specs.Attempt.{Says};
+ghost use Rattle.step.specs.Step.{effect, effectIn};
+ghost use Rattle.attempt.specs.Attempt.{Comes, Says};
+
+// The phase that a line goes to, and what the daemon has to do.
+pub(crate) struct Move {
+    pub phase: Phase,
+    pub action: Action,
+}
 
 // What S5 found: the address is chosen, or selection stops.
-fn gateway_found(line: Record, found: Found) -> Stepped
-    requires { ⌜ InArrays line ⌝ }
-    ensures { λ r. ⌜ Gives r 0 (gatewayFound (lineOf line) found .line) (gatewayFound (lineOf line) found .action) ⌝ }
+fn gateway_found(found: Found) -> Move
+    ensures { λ r. ⌜ Comes r found ⌝ }
 {
     match found {
-        Found::Chosen(a, passed) => goes(line, Phase::Chosen(a), Action::Chose(a, passed)),
-        Found::Nothing(passed) => goes(line, Phase::Idle, Action::Stopped(4, passed)),
+        Found::Chosen(a, passed) => Move {
+            phase: Phase::Chosen(a),
+            action: Action::Chose(a, passed),
+        },
+        Found::Nothing(passed) => Move {
+            phase: Phase::Idle,
+            action: Action::Stopped(4, passed),
+        },
     }
 }
 
-// What S1 to S4 came to: selection stops, a name is asked, or an address is treated as an answer list of one.
-fn decided(line: Record, facts: Facts, choice: Choice, text: &[u8], name: &mut [u8]) -> Stepped
-    requires { ⌜ InArrays line × TextWithin (now text) choice × (nameRoom ≤ length (now name)) ⌝ }
-    ensures { λ r. ⌜ Says r (decided (lineOf line) facts (now (text .entry)) choice) (now (text .entry)) (now (name .exit)) (length (now (name .entry))) ⌝ }
+// What S1 to S4 came to: selection stops, a name is asked, or an address is treated as an answer list of one; of a line with the first m of some holds.
+fn decided(
+    holds: [Hold; HOLDS],
+    m: usize,
+    facts: Facts,
+    choice: Choice,
+    text: &[u8],
+    name: &mut [u8],
+) -> Move
+    requires { ⌜ (m ≤ mostHolds) × TextWithin (now text) choice × (nameRoom ≤ length (now name)) ⌝ }
+    ensures { λ r. ⌜ ((x : Line) → x .holds ≡ take m holds → Says r x (decided x facts (now (text .entry)) choice) (now (text .entry)) (now (name .exit)) (length (now (name .entry)))) ⌝ }
 {
     let n = build(choice, name);
     let length = asked(choice, text, name, n).len();
     match choice {
-        Choice::Stop(number) => goes(line, Phase::Idle, Action::Stopped(number, 0)),
-        Choice::Country(_) => goes(line, Phase::Country(facts), Action::AskCountry(length)),
-        Choice::Text { at, length: _ } => goes(
-            line,
-            Phase::Name(facts),
-            Action::AskText(at, length),
-        ),
-        Choice::Network(_) => goes(line, Phase::Name(facts), Action::AskBuilt(length)),
-        Choice::Address(a) => {
-            let holds = line.holds;
-            gateway_found(line, choose_one(a, facts.version, holds, line.hold_count))
-        }
+        Choice::Stop(number) => Move {
+            phase: Phase::Idle,
+            action: Action::Stopped(number, 0),
+        },
+        Choice::Country(_) => Move {
+            phase: Phase::Country(facts),
+            action: Action::AskCountry(length),
+        },
+        Choice::Text { at, length: _ } => Move {
+            phase: Phase::Name(facts),
+            action: Action::AskText(at, length),
+        },
+        Choice::Network(_) => Move {
+            phase: Phase::Name(facts),
+            action: Action::AskBuilt(length),
+        },
+        Choice::Address(a) => gateway_found(choose_one(a, facts.version, holds, m)),
     }
 }
 
@@ -103,7 +128,11 @@ pub fn start(line: Record, time: u64, given: StartNumbers, text: &[u8], name: &m
     }
     let config = lent.config;
     let choice = selection::start(config, facts);
-    decided(found, facts, choice, text, name)
+    let holds = found.holds;
+    let moved = decided(holds, found.hold_count, facts, choice, text, name);
+    let next = moved.phase;
+    let action = moved.action;
+    goes(found, next, action)
 }
 
 // Whether a lent list of networks is out of its range, or comes without a reply.
@@ -148,7 +177,11 @@ pub fn country_answer(
     };
     let config = lent.config;
     let choice = selection::country(config, facts, replied == 1, networks);
-    decided(found, facts, choice, text, name)
+    let holds = found.holds;
+    let moved = decided(holds, found.hold_count, facts, choice, text, name);
+    let next = moved.phase;
+    let action = moved.action;
+    goes(found, next, action)
 }
 
 // The address answer: the first address that is permitted is chosen.
@@ -169,8 +202,8 @@ pub fn address_answer(line: Record, time: u64, addresses: &[u8]) -> Stepped
         return refused(line, 10);
     };
     let holds = found.holds;
-    gateway_found(
-        found,
-        choose(addresses, facts.version, holds, found.hold_count),
-    )
+    let moved = gateway_found(choose(addresses, facts.version, holds, found.hold_count));
+    let next = moved.phase;
+    let action = moved.action;
+    goes(found, next, action)
 }

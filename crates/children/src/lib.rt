@@ -30,13 +30,13 @@ const LEAST_SPI: u64 = 256;
 const MOST_SESSION: u64 = 15;
 
 // The octets of a child.
-const LENGTH: usize = 5;
+pub const CHILD: usize = 5;
 
 // The octets of all the children that a line has room for.
-pub const CHILDREN_ROOM: usize = CHILDREN * LENGTH;
+pub const CHILDREN_ROOM: usize = CHILDREN * CHILD;
 
 // The child at a place.
-fn read_child(b: &[u8], at: usize) -> Child
+pub fn read_child(b: &[u8], at: usize) -> Child
     requires { ⌜ at + childLength ≤ length (now b) ⌝ }
     ensures { λ r. ⌜ r ≡ childFrom (now (b .entry)) at ⌝ }
 {
@@ -63,7 +63,7 @@ pub fn read_children(b: &[u8], at: usize, n: usize) -> [Child; CHILDREN]
     let mut list = [Child { spi: 0, session: 0 }; CHILDREN];
     let mut i = 0;
     while i < n {
-        list[i] = read_child(b, at + LENGTH * i);
+        list[i] = read_child(b, at + CHILD * i);
         i += 1;
     }
     list
@@ -78,7 +78,7 @@ pub fn put_children(b: &mut [u8], at: usize, list: [Child; CHILDREN], n: usize)
     let mut i = 0;
     while i < n {
         let child = list[i];
-        put_child(b, at + LENGTH * i, child);
+        put_child(b, at + CHILD * i, child);
         i += 1;
     }
 }
@@ -129,7 +129,7 @@ fn fit_at(b: &[u8], at: usize, n: usize) -> bool
 {
     let mut i = 0;
     while i < n {
-        let child = read_child(b, at + LENGTH * i);
+        let child = read_child(b, at + CHILD * i);
         if !child_fits(child) {
             return false;
         }
@@ -146,7 +146,7 @@ fn spis(b: &[u8], at: usize, n: usize) -> [u64; CHILDREN]
     let mut w = [0u64; CHILDREN];
     let mut i = 0;
     while i < CHILDREN {
-        w[i] = pick(i < n, get(b, at + LENGTH * i, 4), i as u64);
+        w[i] = pick(i < n, get(b, at + CHILD * i, 4), i as u64);
         i += 1;
     }
     w
@@ -174,7 +174,7 @@ pub fn are_sound(b: &[u8], at: usize, n: usize) -> bool
     // One child is tested without a loop.
     if n == 1 {
         let child = read_child(b, at);
-        return child_fits(child) & zeros_at(b, at + LENGTH, CHILDREN_ROOM - LENGTH);
+        return child_fits(child) & zeros_at(b, at + CHILD, CHILDREN_ROOM - CHILD);
     }
     if CHILDREN < n {
         return false;
@@ -182,7 +182,7 @@ pub fn are_sound(b: &[u8], at: usize, n: usize) -> bool
     if !fit_at(b, at, n) {
         return false;
     }
-    if !zeros_at(b, at + LENGTH * n, CHILDREN_ROOM - LENGTH * n) {
+    if !zeros_at(b, at + CHILD * n, CHILDREN_ROOM - CHILD * n) {
         return false;
     }
     differ_at(b, at, n)

@@ -2,16 +2,15 @@
 use Prim.Native.Nat.{ℕ, suc, _+_, _-_, _^_, _≤_, _<_}
 use mathlib.Core.List.{List, [], _∷_, _++_, append-assoc}
 use mathlib.Core.Option.{Option, none, some}
-use mathlib.Core.Path.{_≡_, refl, sym, ap, _∙_}
+use mathlib.Core.Path.{_≡_, refl, sym, ap, ap₂, _∙_}
 use native.Mathlib.Numerals.{add-one}
-use lib.ListN.{length, getD, take, drop}
 use Rattle.octets.specs.Part.{Wrote}
 use Rattle.octets.specs.Row.{joined, row}
-use Rattle.octets.proofs.Rows.{left-more, left-none, row-done, row-more}
+use Rattle.octets.proofs.Rows.{length-row, row-done, row-more}
 use Rattle.address.specs.Address.{numberOf, versionOf, widthOf}
 use Rattle.address.specs.declared.Address.the-variants.{V6}
+use Rattle.children.specs.Children.{childIn, childrenFrom}
 use Rattle.children.specs.declared.Child.{Child}
-use Rattle.children.proofs.Widths.{nothing}
 use Rattle.record.specs.Line.{Line}
 use Rattle.text.specs.Text.{text, decimal, decimalWidth, digitText}
 use Rattle.text.proofs.Texts.{length-digitText, text-halves}
@@ -35,19 +34,21 @@ unfolding lineText headText tailText
 line-parts n x = simp append-assoc
 
 -- the count of children, and their records
-pub tail-parts : (n : ℕ) (cs : List Child) {k : ℕ} → length cs ≡ k → tailText n cs ≡ tab ++ decimal k ++ newline ++ joined (childText n) cs
-unfolding tailText
-tail-parts n cs e = ap (λ (k : ℕ). tab ++ decimal k ++ newline ++ joined (childText n) cs) e
+pub tail-parts : (n : ℕ) (l : List ℕ) (at : ℕ) {k m : ℕ} → k ≡ m
+    → tailText n (childrenFrom l at m) ≡ tab ++ decimal k ++ newline ++ joined (childText n) (childrenFrom l at k)
+unfolding tailText childrenFrom
+tail-parts n l at {k} {m} e =
+    ap₂ (λ (i j : ℕ). tab ++ decimal i ++ newline ++ joined (childText n) (row (childIn l at) 0 j)) (length-row (childIn l at) 0 m ∙ sym e) (sym e)
 
--- the next of the first n children, and those behind it
-pub next-child : (line : ℕ) (l : List Child) (n i : ℕ) → n ≤ length l → i < n
-    → joined (childText line) (drop i (take n l)) ≡ childText line (getD l i nothing) ++ joined (childText line) (drop (i + 1) (take n l))
-unfolding joined
-next-child line l n i long h = ap (joined (childText line)) (left-more l n i long nothing h)
+-- the next of n values in a row, and those behind it
+module _ {A : Type 0} (g : A → List ℕ) (f : ℕ → A) (i n : ℕ) where
+  pub next-joined : i < n → joined g (row f i (n - i)) ≡ g (f i) ++ joined g (row f (i + 1) (n - (i + 1)))
+  unfolding joined
+  next-joined h = ap (joined g) (row-more f i n h)
 
-pub no-child : (line : ℕ) (l : List Child) (n i : ℕ) → n ≤ length l → n ≤ i → joined (childText line) (drop i (take n l)) ≡ []
-unfolding joined
-no-child line l n i long h = ap (joined (childText line)) (left-none l n i long h)
+  pub none-joined : n ≤ i → joined g (row f i (n - i)) ≡ []
+  unfolding joined
+  none-joined h = ap (joined g) (row-done f i n h)
 
 -- the next line, and those behind it
 module _ (f : ℕ → Option Line) (k n : ℕ) where

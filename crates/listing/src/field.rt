@@ -1,14 +1,29 @@
 // The fields of a listing: each is stored from a place on, and the place behind it comes back.
 use address::Address;
+use addresses::read_address;
+use octets::number::get;
 use octets::slice::copy;
-use phase::MaybeAddress;
-use phase::Phase;
+use phase::AUTH;
+use phase::CHOSEN;
+use phase::COUNTRY;
+use phase::EAP;
+use phase::IDLE;
+use phase::INIT;
+use phase::NAME;
+use phase::SURE;
+use record::PHASE_AT;
 use text::put_decimal;
 use text::put_digits;
+ghost use mathlib.Core.Bool.{true};
 ghost use mathlib.Core.List.{_++_};
 ghost use mathlib.Core.Option.{some};
-ghost use Rattle.phase.specs.Chosen.{addressOption};
+ghost use mathlib.Core.Path.{_≡_};
+ghost use Prim.Native.Nat.{_≤_};
+ghost use lib.ListN.{length};
+ghost use Rattle.phase.specs.Chosen.{chosen};
+ghost use Rattle.phase.specs.Phase.{isPhase, phaseFrom};
 ghost use Rattle.phase.specs.Stage.{stageOf};
+ghost use Rattle.record.specs.Octets.{phasePlace, recordLength};
 ghost use Rattle.text.specs.Text.{decimal, digitText, text};
 ghost use Rattle.rules.specs.Listing.{addressText, word};
 ghost use Rattle.listing.specs.Branch.{Fits, Put};
@@ -41,22 +56,37 @@ pub(crate) fn put_number(buffer: &mut [u8], at: usize, left: &[u8], x: u64, righ
     put_text(buffer, end, right)
 }
 
-// Stores the word of a phase.
-pub(crate) fn put_word(buffer: &mut [u8], at: usize, phase: Phase) -> usize
-    requires { ⌜ Fits (now buffer) at (text (word (stageOf phase))) ⌝ }
-    ensures { λ r. ⌜ Put (now (buffer .entry)) at (text (word (stageOf phase))) (now (buffer .exit)) r ⌝ }
+// Stores the word of a line's phase, from its octets.
+pub(crate) fn put_word(buffer: &mut [u8], at: usize, b: &[u8]) -> usize
+    requires { ⌜ (recordLength ≤ length (now b)) × (isPhase (now b) phasePlace ≡ true) × Fits (now buffer) at (text (word (stageOf (phaseFrom (now b) phasePlace)))) ⌝ }
+    ensures { λ r. ⌜ Put (now (buffer .entry)) at (text (word (stageOf (phaseFrom (now (b .entry)) phasePlace)))) (now (buffer .exit)) r ⌝ }
 {
-    match phase {
-        Phase::Idle => put_text(buffer, at, b"idle"),
-        Phase::Country(_) => put_text(buffer, at, b"country"),
-        Phase::Name(_) => put_text(buffer, at, b"name"),
-        Phase::Chosen(_) => put_text(buffer, at, b"chosen"),
-        Phase::Init(_) => put_text(buffer, at, b"init"),
-        Phase::Auth(_) => put_text(buffer, at, b"auth"),
-        Phase::Eap(_, _) => put_text(buffer, at, b"eap"),
-        Phase::Sure(_) => put_text(buffer, at, b"sure"),
-        Phase::Live(_) => put_text(buffer, at, b"live"),
+    let number = get(b, PHASE_AT, 1);
+    if number == IDLE {
+        return put_text(buffer, at, b"idle");
     }
+    if number == COUNTRY {
+        return put_text(buffer, at, b"country");
+    }
+    if number == NAME {
+        return put_text(buffer, at, b"name");
+    }
+    if number == CHOSEN {
+        return put_text(buffer, at, b"chosen");
+    }
+    if number == INIT {
+        return put_text(buffer, at, b"init");
+    }
+    if number == AUTH {
+        return put_text(buffer, at, b"auth");
+    }
+    if number == EAP {
+        return put_text(buffer, at, b"eap");
+    }
+    if number == SURE {
+        return put_text(buffer, at, b"sure");
+    }
+    put_text(buffer, at, b"live")
 }
 
 // Stores an address, one of version 6 half by half.
@@ -73,13 +103,13 @@ fn put_known(buffer: &mut [u8], at: usize, address: Address) -> usize
     }
 }
 
-// Stores an address, or a hyphen where there is none.
-pub(crate) fn put_address(buffer: &mut [u8], at: usize, address: MaybeAddress) -> usize
-    requires { ⌜ Fits (now buffer) at (addressText (addressOption address)) ⌝ }
-    ensures { λ r. ⌜ Put (now (buffer .entry)) at (addressText (addressOption address)) (now (buffer .exit)) r ⌝ }
+// Stores the chosen address of a line, from its octets, or a hyphen where there is none.
+pub(crate) fn put_address(buffer: &mut [u8], at: usize, b: &[u8]) -> usize
+    requires { ⌜ (recordLength ≤ length (now b)) × (isPhase (now b) phasePlace ≡ true) × Fits (now buffer) at (addressText (chosen (phaseFrom (now b) phasePlace))) ⌝ }
+    ensures { λ r. ⌜ Put (now (buffer .entry)) at (addressText (chosen (phaseFrom (now (b .entry)) phasePlace))) (now (buffer .exit)) r ⌝ }
 {
-    match address {
-        MaybeAddress::Is(a) => put_known(buffer, at, a),
-        MaybeAddress::None => put_text(buffer, at, b"-"),
+    if get(b, PHASE_AT, 1) < CHOSEN {
+        return put_text(buffer, at, b"-");
     }
+    put_known(buffer, at, read_address(b, PHASE_AT + 1))
 }

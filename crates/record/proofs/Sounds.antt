@@ -197,6 +197,10 @@ hold-octet l e = few-holds l (parts l e .holds-written)
 pub child-octet : (l : List ℕ) → isRecord l ≡ true → field l 26 1 ≤ 8
 child-octet l e = few-children l (parts l e .children-written)
 
+-- a phase stands in it
+pub sound-phase : (l : List ℕ) → isRecord l ≡ true → isPhase l 5 ≡ true
+sound-phase l e = phase-stands l (parts l e)
+
 -- the line in it is sound
 pub sound-line : (l : List ℕ) → isRecord l ≡ true → lineSound (lineFrom l) ≡ true
 unfolding isRecord

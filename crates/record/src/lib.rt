@@ -41,15 +41,15 @@ ghost use Rattle.record.specs.Sound.{isRecord};
 // Where the parts of a record stand: the pair first, then the time, the phase, both counts, the holds and the children.
 pub const TIME_AT: usize = 1;
 
-pub(crate) const PHASE_AT: usize = 5;
+pub const PHASE_AT: usize = 5;
 
 pub(crate) const HOLD_COUNT_AT: usize = 25;
 
-pub(crate) const CHILD_COUNT_AT: usize = 26;
+pub const CHILD_COUNT_AT: usize = 26;
 
 pub(crate) const HOLDS_AT: usize = 27;
 
-pub(crate) const CHILDREN_AT: usize = HOLDS_AT + HOLDS_ROOM;
+pub const CHILDREN_AT: usize = HOLDS_AT + HOLDS_ROOM;
 
 // The octets of a record.
 pub const RECORD: usize = CHILDREN_AT + CHILDREN_ROOM;

@@ -89,12 +89,16 @@ pub fn decimal_width(x: u64) -> usize
     n
 }
 
-// Stores x in decimal from `at`, without leading zeros, and returns the place after it.
+// Stores x in decimal from `at`, without leading zeros, and returns the place after it; one digit is stored without a loop.
 pub fn put_decimal(s: &mut [u8], at: usize, x: u64) -> usize
     requires { ⌜ at + 20 ≤ length (now s) ⌝ }
     ensures wrote { λ _. ⌜ Wrote (now (s .entry)) at (decimal x) (now (s .exit)) ⌝ }
     ensures next { λ r. ⌜ r ≡ at + decimalWidth x ⌝ }
 {
+    if x < 10 {
+        s[at] = character(x);
+        return at + 1;
+    }
     let n = decimal_width(x);
     put_digits(s, at, n, 10, x);
     at + n

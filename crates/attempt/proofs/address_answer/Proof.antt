@@ -9,7 +9,7 @@ use Rattle.phase.proofs.Stages.{other-stage, same-stage, tags}
 use Rattle.record.specs.Line.{lineOf}
 use Rattle.rules.specs.Answer.{eventRoom}
 use Rattle.rules.specs.Call.{address}
-use Rattle.rules.specs.Life.{becomes}
+use Rattle.rules.specs.Life.{goes}
 use Rattle.rules.specs.Refusals.{hasNoRoom, isAllowed, isHeldFull, isMalformed, isOutOfRange, isSpiTaken}
 use Rattle.step.proofs.Steps.{accepted, late, taken, turned-away, unfit, untimely}
 use Rattle.attempt.proofs.Outcomes.{of-addresses}
@@ -75,19 +75,22 @@ choose-requires c κs = search needs
 gateway-found-requires : tie.Need-gateway-found-requires
 gateway-found-requires c κs = search needs
 
+goes-requires : tie.Need-goes-requires
+goes-requires c κs = c .before .before .before .before .before .before .before .before .before .before .current .ensures .1
+
 returns-4 : tie.Need-returns-4
-unfolding eventRoom zeros padded isOutOfRange isMalformed isAllowed isSpiTaken hasNoRoom isHeldFull lineOf
+unfolding eventRoom zeros padded isOutOfRange isMalformed isAllowed isSpiTaken hasNoRoom isHeldFull goes lineOf
 returns-4 c =
-    let first = c .before .before .before .before .before .before in
+    let first = c .before .before .before .before .before .before .before in
     let a = first .before .before .before .before .before .before .args in
     let found = first .before .before .before .before .current in
     let timely = sym (first .before .before .before .is-late .ensures) ∙ first .before .before .if1 .left in
     let fit = sym (ap not (first .before .addresses-fit .ensures)) ∙ first .if2 .left in
-    let in-name = c .before .before .before .before .phase .given .1 in
-    let gives = c .gateway-found .ensures in (
+    let in-name = c .before .before .before .before .before .phase .given .1 in
+    let gives = c .goes .ensures in (
       taken (address (now (a .addresses))) _ (a .line) (found .result) _ (found .ensures .0)
           (accepted _ _ _ timely fit refl (same-stage in-name) refl refl refl)
-          (becomes _ _) (of-addresses _ _ _ _ in-name (c .before .choose .ensures)) gives,
+          _ (of-addresses _ (lineOf (found .result)) _ _ _ in-name (c .before .before .choose .ensures) (c .before .gateway-found .ensures)) gives,
       gives .in-arrays,
     )
 
@@ -107,4 +110,5 @@ address-answer-spec =
     returns-3
     choose-requires
     gateway-found-requires
+    goes-requires
     returns-4)

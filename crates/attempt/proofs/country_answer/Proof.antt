@@ -113,26 +113,31 @@ country-requires c κs = search needs
 
 decided-requires : tie.Need-decided-requires
 decided-requires c κs =
-    let c1 = c .before .before .before .before .before .before .before .before in
-    (found c1 .current .ensures .1, country-within _ _ (c1 .read .ensures .within) _ _ _ (c .before .country .ensures), rw (cleared c1 .zero .kept .0) (given c1 .pre .1))
+    let c1 = c .before .before .before .before .before .before .before .before .before in
+    (found c1 .current .ensures .1 .0, country-within _ _ (c1 .read .ensures .within) _ _ _ (c .before .before .country .ensures), rw (cleared c1 .zero .kept .0) (given c1 .pre .1))
+
+goes-requires : tie.Need-goes-requires
+goes-requires c κs =
+    let c1 = c .before .before .before .before .before .before .before .before .before .before .before .before in
+    found c1 .current .ensures .1
 
 same-length-4 : tie.Need-same-length-4
 same-length-4 c =
-    let c1 = c .before .before .before .before .before .before .before .before .before .before .before in
-    c .before .before .decided .kept .1 .1 .1 .1 .0 ∙ cleared c1 .zero .kept .0
+    let c1 = c .before .before .before .before .before .before .before .before .before .before .before .before .before in
+    c .before .before .before .decided .kept .1 .1 .1 .1 .1 .0 ∙ cleared c1 .zero .kept .0
 
 returns-4 : tie.Need-returns-4
 unfolding eventRoom isAllowed isSpiTaken hasNoRoom isHeldFull lineOf
 returns-4 c =
-    let told = c .before .before .before .before .before .before .before in
+    let told = c .before .before .before .before .before .before .before .before .before in
     let c2 = told .before .before in
     let c1 = c2 .before .before in
     let line = found c1 .current in
     let waits = told .phase .given .1 in
     carried-out (country _ _ _ _) _ (given c1 .args .line) (line .result) _ _ _ (line .ensures .0)
     (accepted _ _ _ (tests c1 .timely) (tests c1 .fit (c2 .if2 .left)) (tests c1 .formed (c2 .if2 .left)) (same-stage waits) refl refl refl) _
-    (of-country _ _ _ _ _ _ _ _ waits (c1 .read .ensures .settings-are (c2 .if2 .left)) (c .before .before .before .before .country .ensures)) _
-    (cleared c1 .zero .kept .0) (c .before .before .decided .ensures)
+    (of-country _ _ _ _ _ _ _ _ waits (c1 .read .ensures .settings-are (c2 .if2 .left)) (c .before .before .before .before .before .before .country .ensures)) _
+    (cleared c1 .zero .kept .0) _ (c .before .before .before .decided .ensures (lineOf (line .result)) refl) (c .goes .ensures)
 
 pub country-answer-spec : {M : Type 1} → statement M
 country-answer-spec =
@@ -156,5 +161,6 @@ country-answer-spec =
     returns-3
     country-requires
     decided-requires
+    goes-requires
     same-length-4
     returns-4)

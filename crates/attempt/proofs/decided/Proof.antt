@@ -1,9 +1,7 @@
 -- `attempt::decided` meets its contract: the choice says the phase and the action, and the name that it needs is built and lies in its slice.
 use borrow.Author.Needs.{needs}
 use Rattle.query.proofs.Names.{lies}
-use Rattle.record.specs.Line.{lineOf}
-use Rattle.rules.specs.Life.{decided, goes}
-use Rattle.attempt.proofs.Parts.{asks-built, asks-country, asks-text, says}
+use Rattle.attempt.proofs.Parts.{answers-one, asks-built, asks-country, asks-text, says, stops}
 use Rattle.attempt.proofs.decided.Statement.{statement}
 use Rattle.attempt.proofs.decided.Tie as tie
 
@@ -18,26 +16,14 @@ asked-requires c κs =
 enum-known-choice : tie.Need-enum-known-choice
 enum-known-choice c = search needs
 
-goes-requires : tie.Need-goes-requires
-goes-requires c κs = search needs
-
 enum-told : tie.Need-enum-told
 enum-told c = search needs
-
-goes-requires-2 : tie.Need-goes-requires-2
-goes-requires-2 c κs = search needs
 
 enum-known-choice-2 : tie.Need-enum-known-choice-2
 enum-known-choice-2 c = search needs
 
-goes-requires-3 : tie.Need-goes-requires-3
-goes-requires-3 c κs = search needs
-
 enum-told-2 : tie.Need-enum-told-2
 enum-told-2 c = search needs
-
-goes-requires-4 : tie.Need-goes-requires-4
-goes-requires-4 c κs = search needs
 
 enum-known-choice-3 : tie.Need-enum-known-choice-3
 enum-known-choice-3 c = search needs
@@ -52,51 +38,52 @@ same-length : tie.Need-same-length
 same-length c = search needs
 
 returns : tie.Need-returns
-unfolding decided goes
 returns c =
-    let start = c .before .before .before .before .before .before .before .before .before .before .before .before in
-    let build = c .before .before .before .before .before .before .before .before .build in
-    says _ _ _ _ _ _ _ _ (start .pre .1) (build .ensures) (search needs) (rw (c .before .before .choice .given .1) (c .goes .ensures))
+    let asked = c .before .before .before in
+    let start = asked .before .before .before .before .before .before .before .before in
+    let build = asked .before .before .before .before .build in
+    λ x held. says x _ _ _ _ _ _ _ (start .pre .1) (build .ensures) (search needs) (stops x _ _ _ _ (c .before .choice .given .1))
 
 same-length-2 : tie.Need-same-length-2
 same-length-2 c = search needs
 
 returns-2 : tie.Need-returns-2
 returns-2 c =
-    let start = c .before .before .before .before .before .before .before .before .before .before .before in
-    let build = c .before .before .before .before .before .before .before .build in
-    let asked = c .before .before .before .asked in
-    says _ _ _ _ _ _ _ _ (start .pre .1) (build .ensures) (search needs) (asks-country _ _ _ _ _ _ (asked .ensures) _ (c .before .enum-told .given .1) (c .goes2 .ensures))
+    let asked = c .before .before in
+    let start = asked .before .before .before .before .before .before .before .before in
+    let build = asked .before .before .before .before .build in
+    λ x held. says x _ _ _ _ _ _ _ (start .pre .1) (build .ensures) (search needs) (asks-country x _ _ _ _ (asked .asked .ensures) _ (c .enum-told .given .1))
 
 same-length-3 : tie.Need-same-length-3
 same-length-3 c = search needs
 
 returns-3 : tie.Need-returns-3
 returns-3 c =
-    let start = c .before .before .before .before .before .before .before .before .before .before .before .before in
-    let build = c .before .before .before .before .before .before .before .before .build in
-    let asked = c .before .before .before .before .asked in
-    says _ _ _ _ _ _ _ _ (start .pre .1) (build .ensures) (search needs) (asks-text _ _ _ _ _ _ (asked .ensures) _ _ (c .before .before .choice2 .given .1) (start .pre .1) (c .goes3 .ensures))
+    let asked = c .before .before .before in
+    let start = asked .before .before .before .before .before .before .before .before in
+    let build = asked .before .before .before .before .build in
+    λ x held. says x _ _ _ _ _ _ _ (start .pre .1) (build .ensures) (search needs) (asks-text x _ _ _ _ (asked .asked .ensures) _ _ (c .before .choice2 .given .1) (start .pre .1))
 
 same-length-4 : tie.Need-same-length-4
 same-length-4 c = search needs
 
 returns-4 : tie.Need-returns-4
 returns-4 c =
-    let start = c .before .before .before .before .before .before .before .before .before .before .before in
-    let build = c .before .before .before .before .before .before .before .build in
-    let asked = c .before .before .before .asked in
-    says _ _ _ _ _ _ _ _ (start .pre .1) (build .ensures) (search needs) (asks-built _ _ _ _ _ _ (asked .ensures) _ (c .before .enum-told2 .given .1) (c .goes4 .ensures))
+    let asked = c .before .before in
+    let start = asked .before .before .before .before .before .before .before .before in
+    let build = asked .before .before .before .before .build in
+    λ x held. says x _ _ _ _ _ _ _ (start .pre .1) (build .ensures) (search needs) (asks-built x _ _ _ _ (asked .asked .ensures) _ (c .enum-told2 .given .1))
 
 same-length-5 : tie.Need-same-length-5
 same-length-5 c = search needs
 
 returns-5 : tie.Need-returns-5
-unfolding decided lineOf
 returns-5 c =
-    let start = c .before .before .before .before .before .before .before .before .before .before .before .before .before .before in
-    let build = c .before .before .before .before .before .before .before .before .before .before .build in
-    says _ _ _ _ _ _ _ _ (start .pre .1) (build .ensures) (search needs) (rw (c .before .before .before .before .choice3 .given .1, ← c .before .choose-one .ensures) (c .gateway-found .ensures))
+    let asked = c .before .before .before .before .before in
+    let start = asked .before .before .before .before .before .before .before .before in
+    let build = asked .before .before .before .before .build in
+    λ x held. says x _ _ _ _ _ _ _ (start .pre .1) (build .ensures) (search needs)
+    (answers-one x _ _ _ _ held _ (c .before .before .before .choice3 .given .1) _ (c .before .choose-one .ensures) _ (c .gateway-found .ensures))
 
 pub decided-spec : {M : Type 1} → statement M
 decided-spec =
@@ -105,13 +92,9 @@ decided-spec =
     build-requires
     asked-requires
     enum-known-choice
-    goes-requires
     enum-told
-    goes-requires-2
     enum-known-choice-2
-    goes-requires-3
     enum-told-2
-    goes-requires-4
     enum-known-choice-3
     choose-one-requires
     gateway-found-requires

@@ -134,18 +134,23 @@ start-requires c κs = search needs
 
 decided-requires : tie.Need-decided-requires
 decided-requires c κs =
-    let c1 = c .before .before .before .before .before .before .before .before .before in
-    (found c1 .current .ensures .1, start-within _ _ (c1 .read .ensures .within) _ _ (c .before .start .ensures), rw (cleared c1 .zero .kept .0) (given c1 .pre .1))
+    let c1 = c .before .before .before .before .before .before .before .before .before .before in
+    (found c1 .current .ensures .1 .0, start-within _ _ (c1 .read .ensures .within) _ _ (c .before .before .start .ensures), rw (cleared c1 .zero .kept .0) (given c1 .pre .1))
+
+goes-requires : tie.Need-goes-requires
+goes-requires c κs =
+    let c1 = c .before .before .before .before .before .before .before .before .before .before .before .before .before in
+    found c1 .current .ensures .1
 
 same-length-5 : tie.Need-same-length-5
 same-length-5 c =
-    let c1 = c .before .before .before .before .before .before .before .before .before .before .before .before in
-    c .before .before .decided .kept .1 .1 .1 .1 .0 ∙ cleared c1 .zero .kept .0
+    let c1 = c .before .before .before .before .before .before .before .before .before .before .before .before .before .before in
+    c .before .before .before .decided .kept .1 .1 .1 .1 .1 .0 ∙ cleared c1 .zero .kept .0
 
 returns-5 : tie.Need-returns-5
 unfolding eventRoom isAllowed isSpiTaken hasNoRoom isHeldFull lineOf
 returns-5 c =
-    let c4 = c .before .before .before .before .before .before in
+    let c4 = c .before .before .before .before .before .before .before .before in
     let c3 = c4 .before .before in
     let c2 = c3 .before .before in
     let c1 = c2 .before .before in
@@ -154,8 +159,8 @@ returns-5 c =
     let room = ap (leb mostHolds) (hold-count (line .result) _ (line .ok) (line .ensures .1)) ∙ lt-leb _ _ (c4 .if4 .left) in
     carried-out (start _ _ _) _ (given c1 .args .line) (line .result) _ _ _ (line .ensures .0)
     (accepted _ _ _ (tests c1 .timely) (tests c1 .fit (c2 .if2 .left)) (tests c1 .formed (c2 .if2 .left)) idle refl refl room) _
-    (of-start _ _ _ _ _ _ _ (c1 .read .ensures .settings-are (c2 .if2 .left)) (c1 .before .facts-of .ensures) (c .before .before .before .before .start .ensures)) _
-    (cleared c1 .zero .kept .0) (c .before .before .decided .ensures)
+    (of-start _ _ _ _ _ _ _ (c1 .read .ensures .settings-are (c2 .if2 .left)) (c1 .before .facts-of .ensures) (c .before .before .before .before .before .before .start .ensures)) _
+    (cleared c1 .zero .kept .0) _ (c .before .before .before .decided .ensures (lineOf (line .result)) refl) (c .goes .ensures)
 
 pub start-spec : {M : Type 1} → statement M
 start-spec =
@@ -182,5 +187,6 @@ start-spec =
     returns-4
     start-requires
     decided-requires
+    goes-requires
     same-length-5
     returns-5)

@@ -1,10 +1,9 @@
 -- `listing::put_head` meets its contract: label, word and address are stored one behind the other.
-use mathlib.Core.Path.{ap, sym}
 use borrow.Author.Needs.{needs}
 use Rattle.text.specs.Text.{text}
-use Rattle.rules.specs.Listing.{addressText, tab}
+use Rattle.rules.specs.Listing.{tab}
 use Rattle.listing.specs.Branch.{headText}
-use Rattle.listing.proofs.Puts.{and-then, fits-as, fits-behind, fits-first, put-as}
+use Rattle.listing.proofs.Puts.{and-then, fits-behind, fits-first}
 use Rattle.listing.proofs.put_head.Statement.{statement}
 use Rattle.listing.proofs.put_head.Tie as tie
 
@@ -16,13 +15,14 @@ slice-aggregate-put-number-2 c = search needs
 
 put-number-requires : tie.Need-put-number-requires
 unfolding headText text tab
-put-number-requires c κs = fits-first _ (fits-first _ (fits-first _ (c .before .before .before .before .pre)))
+put-number-requires c κs = fits-first _ (fits-first _ (fits-first _ (c .before .before .before .before .before .pre .2)))
 
 put-word-requires : tie.Need-put-word-requires
 unfolding headText text tab
 put-word-requires c κs =
     let label = c .before .before .before in
-    fits-behind (label .put-number .ensures) (fits-first _ (fits-first _ (label .before .before .before .before .before .pre)))
+    let start = label .before .before .before .before .before .before in
+    (start .pre .0, start .pre .1, fits-behind (label .put-number .ensures) (fits-first _ (fits-first _ (start .pre .2))))
 
 slice-aggregate-put-text : tie.Need-slice-aggregate-put-text
 slice-aggregate-put-text c = search needs
@@ -32,19 +32,18 @@ unfolding headText text tab
 put-text-requires c κs =
     let spelt = c .before .before .before .before in
     let label = spelt .before .before .before .before in
-    fits-behind (and-then (label .put-number .ensures) (spelt .put-word .ensures)) (fits-first _ (label .before .before .before .before .before .pre))
-
-chosen-requires : tie.Need-chosen-requires
-chosen-requires c κs = search needs
+    let start = label .before .before .before .before .before .before in
+    fits-behind (and-then (label .put-number .ensures) (spelt .put-word .ensures)) (fits-first _ (start .pre .2))
 
 put-address-requires : tie.Need-put-address-requires
 unfolding headText text tab
 put-address-requires c κs =
-    let parted = c .before .before .before .before in
+    let parted = c .before .before .before in
     let spelt = parted .before .before .before .before .before in
     let label = spelt .before .before .before .before in
+    let start = label .before .before .before .before .before .before in
     let before = and-then (and-then (label .put-number .ensures) (spelt .put-word .ensures)) (parted .put-text .ensures) in
-    fits-as (sym (ap addressText (c .chosen .ensures))) (fits-behind before (label .before .before .before .before .before .pre))
+    (start .pre .0, start .pre .1, fits-behind before (start .pre .2))
 
 same-length : tie.Need-same-length
 same-length c = search needs
@@ -53,11 +52,10 @@ returns : tie.Need-returns
 unfolding headText text tab
 returns c =
     let own = c .before .before in
-    let parted = own .before .before .before .before .before in
+    let parted = own .before .before .before .before in
     let spelt = parted .before .before .before .before .before in
     let label = spelt .before .before .before .before in
-    let before = and-then (and-then (label .put-number .ensures) (spelt .put-word .ensures)) (parted .put-text .ensures) in
-    and-then before (put-as (ap addressText (own .before .chosen .ensures)) (own .put-address .ensures))
+    and-then (and-then (and-then (label .put-number .ensures) (spelt .put-word .ensures)) (parted .put-text .ensures)) (own .put-address .ensures)
 
 pub put-head-spec : {M : Type 1} → statement M
 put-head-spec =
@@ -69,7 +67,6 @@ put-head-spec =
     put-word-requires
     slice-aggregate-put-text
     put-text-requires
-    chosen-requires
     put-address-requires
     same-length
     returns)

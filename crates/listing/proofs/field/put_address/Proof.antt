@@ -1,60 +1,71 @@
 -- `listing::field::put_address` meets its contract: the address, or a hyphen.
-use Prim.Native.Nat.{ℕ}
-use mathlib.Core.List.{List}
-use mathlib.Core.Path.{sym, ap}
+use mathlib.Core.Path.{sym}
+use denote.Ref.{now}
 use borrow.Author.Needs.{needs}
-use Rattle.phase.specs.Chosen.{addressOption}
-use Rattle.phase.specs.declared.MaybeAddress.{MaybeAddress}
 use Rattle.text.specs.Text.{text}
-use Rattle.rules.specs.Listing.{addressText}
+use Rattle.listing.proofs.Lines.{address-at, hyphen-at}
 use Rattle.listing.proofs.Puts.{fits-as, put-as}
 use Rattle.listing.proofs.field.put_address.Statement.{statement}
 use Rattle.listing.proofs.field.put_address.Tie as tie
 
-abbrev spelt : MaybeAddress → List ℕ
-spelt a = addressText (addressOption a)
-
-enum-known-address : tie.Need-enum-known-address
-enum-known-address c = search needs
-
-put-known-requires : tie.Need-put-known-requires
-unfolding addressOption
-put-known-requires c κs = fits-as (ap spelt (c .before .before .address .given .1)) (c .before .before .before .before .before .pre)
-
-enum-told : tie.Need-enum-told
-enum-told c = search needs
+get-requires : tie.Need-get-requires
+get-requires c κs = search needs
 
 slice-aggregate-put-text : tie.Need-slice-aggregate-put-text
 slice-aggregate-put-text c = search needs
 
 put-text-requires : tie.Need-put-text-requires
-unfolding addressOption addressText text
-put-text-requires c κs = fits-as (ap spelt (c .before .before .enum-told .given .1)) (c .before .before .before .before .before .pre)
+unfolding text
+put-text-requires c κs =
+    let number = c .before .before .before in
+    let start = number .before .before .before in
+    fits-as (hyphen-at (now (start .args .b)) (start .pre .1) (number .get .ensures .0) (c .before .before .if1 .taken)) (start .pre .2)
 
 same-length : tie.Need-same-length
 same-length c = search needs
 
 returns : tie.Need-returns
-unfolding addressOption
-returns c = put-as (sym (ap spelt (c .before .before .before .before .before .address .given .1))) (c .before .before .put-known .ensures)
+unfolding text
+returns c =
+    let stored = c .before .before in
+    let number = stored .before .before .before .before in
+    let start = number .before .before .before in
+    put-as (sym (hyphen-at (now (start .args .b)) (start .pre .1) (number .get .ensures .0) (stored .before .before .before .if1 .taken))) (stored .put-text .ensures)
+
+add-read-address : tie.Need-add-read-address
+add-read-address c = search needs
+
+read-address-requires : tie.Need-read-address-requires
+read-address-requires c κs = search needs
+
+put-known-requires : tie.Need-put-known-requires
+put-known-requires c κs =
+    let number = c .before .before .before in
+    let start = number .before .before .before in
+    fits-as (address-at (now (start .args .b)) (start .pre .1) (number .get .ensures .0) (c .before .before .if1 .left) (c .read-address .ensures)) (start .pre .2)
 
 same-length-2 : tie.Need-same-length-2
 same-length-2 c = search needs
 
 returns-2 : tie.Need-returns-2
-unfolding addressOption addressText text
-returns-2 c = put-as (sym (ap spelt (c .before .before .before .before .before .enum-told .given .1))) (c .before .before .put-text .ensures)
+returns-2 c =
+    let stored = c .before .before in
+    let known = stored .before in
+    let number = known .before .before .before in
+    let start = number .before .before .before in
+    put-as (sym (address-at (now (start .args .b)) (start .pre .1) (number .get .ensures .0) (known .before .before .if1 .left) (known .read-address .ensures))) (stored .put-known .ensures)
 
 pub put-address-spec : {M : Type 1} → statement M
 put-address-spec =
     tie.close
     (tie.spec
-    enum-known-address
-    put-known-requires
-    enum-told
+    get-requires
     slice-aggregate-put-text
     put-text-requires
     same-length
     returns
+    add-read-address
+    read-address-requires
+    put-known-requires
     same-length-2
     returns-2)
