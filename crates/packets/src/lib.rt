@@ -7,7 +7,7 @@ use octets::number::MOST_OCTET;
 use octets::number::get;
 use parameters::MOST_PARAMETERS;
 use parameters::Parameter;
-use parameters::parameter_at;
+use parameters::reader::read_from;
 use timer::Timer;
 ghost use mathlib.Core.List.{[]};
 ghost use mathlib.Core.Path.{_≡_};
@@ -105,7 +105,7 @@ pub fn read_parameter(parameters: &[u8], at: u64, fields: &mut [u64; 6]) -> u64
     if (n as u64) < at {
         return refused(8, fields);
     }
-    match parameter_at(parameters, at as usize) {
+    match read_from(parameters, at as usize) {
         Parameter::Whole {
             kind,
             start,

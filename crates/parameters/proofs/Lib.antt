@@ -1,2 +1,4 @@
--- The laws of the walk over AN-parameters.
+-- The laws of the walk over AN-parameters, and of the reader that walks.
+pub mod Held
+pub mod Onward
 pub mod Walk

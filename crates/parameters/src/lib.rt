@@ -1,6 +1,9 @@
 // AN-parameters: each is a type octet, a length octet and that many octets.
+pub mod reader;
+
 use octets::number::get;
 ghost use mathlib.Core.Path.{_≡_};
+ghost use Rattle.parameters.specs.Laws.{Laws};
 ghost use Rattle.parameters.specs.Parameters.{parameterAt, wellFormed};
 
 // The most octets that AN-parameters have in all.
@@ -73,3 +76,8 @@ pub fn well_formed(parameters: &[u8]) -> bool
     }
     true
 }
+
+// Does nothing; its promise is the laws of this crate's definitions.
+pub fn laws()
+    ensures { λ _. ⌜ Laws ⌝ }
+{}

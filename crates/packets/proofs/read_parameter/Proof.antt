@@ -20,8 +20,8 @@ refused-requires-2 c κs = search needs
 returns-2 : tie.Need-returns-2
 returns-2 c = c .refused2 .ensures ∙ past-end _ _ (c .before .before .before .if1 .left) (c .before .before .if2 .taken)
 
-parameter-at-requires : tie.Need-parameter-at-requires
-parameter-at-requires c κs = search needs
+read-from-requires : tie.Need-read-from-requires
+read-from-requires c κs = search needs
 
 enum-known-kind : tie.Need-enum-known-kind
 enum-known-kind c = search needs
@@ -45,19 +45,19 @@ returns-3 : tie.Need-returns-3
 unfolding unlessRefused refusal isBroken parameterNumbers
 returns-3 c =
     let read = c .before .before .before .before .before in
-    c .accepted .ensures ∙ at-place _ _ (read .before .before .if1 .left) (read .before .if2 .left) _ (sym (c .before .before .before .kind .given .1) ∙ read .parameter-at .ensures)
+    c .accepted .ensures ∙ at-place _ _ (read .before .before .if1 .left) (read .before .if2 .left) _ (sym (c .before .before .before .kind .given .1) ∙ read .read-from .ensures)
 
 returns-4 : tie.Need-returns-4
 unfolding unlessRefused refusal isBroken parameterNumbers zeros
 returns-4 c =
     let read = c .before .before .before .before in
-    c .accepted2 .ensures ∙ at-place _ _ (read .before .before .if1 .left) (read .before .if2 .left) _ (sym (c .before .before .enum-told .given .1) ∙ read .parameter-at .ensures)
+    c .accepted2 .ensures ∙ at-place _ _ (read .before .before .if1 .left) (read .before .if2 .left) _ (sym (c .before .before .enum-told .given .1) ∙ read .read-from .ensures)
 
 returns-5 : tie.Need-returns-5
 unfolding unlessRefused refusal isBroken parameterNumbers
 returns-5 c =
     let read = c .before .before .before .before in
-    c .refused3 .ensures ∙ at-place _ _ (read .before .before .if1 .left) (read .before .if2 .left) _ (sym (c .before .before .enum-told2 .given .1) ∙ read .parameter-at .ensures)
+    c .refused3 .ensures ∙ at-place _ _ (read .before .before .if1 .left) (read .before .if2 .left) _ (sym (c .before .before .enum-told2 .given .1) ∙ read .read-from .ensures)
 
 pub read-parameter-spec : {M : Type 1} → statement M
 read-parameter-spec =
@@ -67,7 +67,7 @@ read-parameter-spec =
     returns
     refused-requires-2
     returns-2
-    parameter-at-requires
+    read-from-requires
     enum-known-kind
     accepted-requires
     enum-told
