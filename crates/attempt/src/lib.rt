@@ -9,9 +9,13 @@ use crate::lent::awaiting;
 use crate::lent::read;
 use address::HOLDS;
 use address::Hold;
+use address::is_held;
+use addresses::ADDRESS;
 use gateway::Found;
 use gateway::choose;
 use gateway::choose_one;
+use lists::ENTRIES;
+use lists::address_at;
 use lists::addresses_fit;
 use lists::networks_fit;
 use octets::slice::zero;
@@ -30,20 +34,27 @@ use step::current;
 use step::goes;
 use step::is_late;
 use step::refused;
-ghost use mathlib.Core.List.{[]};
+ghost use mathlib.Core.List.{List, []};
 ghost use mathlib.Core.Path.{_≡_};
-ghost use Prim.Native.Nat.{_≤_};
+ghost use Prim.Native.Nat.{_*_, _≤_};
 ghost use lib.ListN.{length, take};
-ghost use Rattle.address.specs.Address.{mostHolds};
+ghost use Rattle.octets.specs.Row.{only};
+ghost use Rattle.address.specs.Address.{heldAddresses, mostHolds};
+ghost use Rattle.address.specs.declared.Hold.{Hold};
+ghost use Rattle.addresses.specs.Addresses.{addressLength};
+ghost use Rattle.holds.specs.Holds.{endsAfter};
+ghost use Rattle.lists.specs.Held.{HeldAre};
+ghost use Rattle.lists.specs.Lists.{mostEntries};
 ghost use Rattle.network.specs.Name.{nameRoom};
 ghost use Rattle.query.specs.Query.{TextWithin};
+ghost use Rattle.record.specs.Changes.{withHolds};
 ghost use Rattle.record.specs.Line.{Line, lineOf, InArrays};
 ghost use Rattle.rules.specs.Answer.{numbersOf, partNamed, PartWithin};
 ghost use Rattle.rules.specs.Call.{address, country, start};
 ghost use Rattle.rules.specs.Life.{decided};
 ghost use Rattle.rules.specs.Refusals.{badNetworks};
 ghost use Rattle.step.specs.Step.{effect, effectIn};
-ghost use Rattle.attempt.specs.Attempt.{Comes, Says};
+ghost use Rattle.attempt.specs.Attempt.{AnsweredOn, Comes, Says};
 
 // The phase that a line goes to, and what the daemon has to do.
 pub(crate) struct Move {
@@ -184,10 +195,10 @@ pub fn country_answer(
     goes(found, next, action)
 }
 
-// The address answer: the first address that is permitted is chosen.
-pub fn address_answer(line: Record, time: u64, addresses: &[u8]) -> Stepped
+// The address answer, told of each address whether it is on hold: the first that is permitted is chosen.
+pub fn answered(line: Record, time: u64, addresses: &[u8], held: [bool; ENTRIES]) -> Stepped
     requires { ⌜ InArrays line ⌝ }
-    ensures { λ r. ⌜ effectIn r [] [] ≡ effect (address (now (addresses .entry))) time (lineOf line) ⌝ }
+    ensures { λ r. ⌜ ((hs : List Hold) → (length (now (addresses .entry)) ≤ addressLength * mostEntries → HeldAre held (now (addresses .entry)) (heldAddresses (only (endsAfter time) hs))) → AnsweredOn r time hs ≡ effect (address (now (addresses .entry))) time (withHolds (lineOf line) hs)) ⌝ }
     ensures { λ r. ⌜ InArrays (r .line) ⌝ }
 {
     let found = current(line, time);
@@ -201,9 +212,41 @@ pub fn address_answer(line: Record, time: u64, addresses: &[u8]) -> Stepped
     let Phase::Name(facts) = phase else {
         return refused(line, 10);
     };
-    let holds = found.holds;
-    let moved = gateway_found(choose(addresses, facts.version, holds, found.hold_count));
+    let moved = gateway_found(choose(addresses, facts.version, held));
     let next = moved.phase;
     let action = moved.action;
     goes(found, next, action)
+}
+
+// Which addresses of a list are among the first n holds.
+fn held_among(list: &[u8], holds: [Hold; HOLDS], n: usize) -> [bool; ENTRIES]
+    requires { ⌜ n ≤ mostHolds ⌝ }
+    ensures { λ r. ⌜ (length (now (list .entry)) ≤ addressLength * mostEntries → HeldAre r (now (list .entry)) (heldAddresses (take n holds))) ⌝ }
+{
+    let mut held = [false; ENTRIES];
+    let mut i = 0;
+    while (i < ENTRIES) & (ADDRESS * i + ADDRESS <= list.len()) {
+        held[i] = is_held(holds, 0, n, address_at(list, i));
+        i += 1;
+    }
+    held
+}
+
+// The address answer: the first address that is permitted is chosen.
+pub fn address_answer(line: Record, time: u64, addresses: &[u8]) -> Stepped
+    requires { ⌜ InArrays line ⌝ }
+    ensures { λ r. ⌜ effectIn r [] [] ≡ effect (address (now (addresses .entry))) time (lineOf line) ⌝ }
+    ensures { λ r. ⌜ InArrays (r .line) ⌝ }
+{
+    let found = current(line, time);
+    let holds = found.holds;
+    let held = held_among(addresses, holds, found.hold_count);
+    let stepped = answered(line, time, addresses, held);
+    if stepped.refusal != 0 {
+        return refused(line, stepped.refusal);
+    }
+    let next = stepped.line;
+    let phase = next.phase;
+    let action = stepped.action;
+    goes(found, phase, action)
 }

@@ -2,3 +2,4 @@
 pub mod Lists
 pub mod Opens
 pub mod Timed
+pub mod Holdless

@@ -1,6 +1,6 @@
 // From start to the chosen address.
 use crate::refuse;
-use attempt::address_answer;
+use attempt::answered;
 use attempt::country_answer;
 use frame::enter;
 use frame::move_of;
@@ -8,6 +8,8 @@ use frame::settle;
 use network::NAME_ROOM;
 use rules::StartNumbers;
 use table::childless_at;
+use table::held_at;
+use table::unlisted_at;
 ghost use mathlib.Core.List.{[]};
 ghost use mathlib.Core.Path.{_≡_};
 ghost use lib.ListN.{length};
@@ -92,7 +94,8 @@ pub fn address(
         *answer = [0; 12];
         return entered.refusal;
     }
-    let found = childless_at(table, entered.at);
-    let stepped = address_answer(found, time, addresses);
+    let found = unlisted_at(table, entered.at);
+    let held = held_at(table, entered.at, time, addresses);
+    let stepped = answered(found, time, addresses, held);
     settle(table, entered, time, move_of(stepped), answer)
 }

@@ -1,15 +1,15 @@
 // From the chosen address to a live line: IKE and EAP-5G.
 use crate::refuse;
 use frame::enter;
-use frame::move_of;
-use frame::settle;
-use frame::settle_held;
+use frame::first_end;
+use frame::settle_hold;
+use frame::settle_standing;
+use frame::went_of;
 use ike::congestion::congestion;
 use ike::event::IkeEvent;
 use ike::event::step_of;
 use response::REPLY_ROOM;
 use session::eap_packet;
-use table::childless_at;
 use table::unlisted_at;
 ghost use mathlib.Core.List.{[]};
 ghost use mathlib.Core.Path.{_≡_};
@@ -39,7 +39,7 @@ pub fn on_line(
     }
     let found = unlisted_at(table, entered.at);
     let stepped = step_of(found, time, event);
-    settle(table, entered, time, move_of(stepped), answer)
+    settle_standing(table, entered, time, went_of(stepped), answer)
 }
 
 // Takes a congestion notify with its back-off timer.
@@ -59,16 +59,16 @@ pub fn congested(
         *answer = [0; 12];
         return entered.refusal;
     }
-    let found = childless_at(table, entered.at);
+    let found = unlisted_at(table, entered.at);
     let stepped = congestion(found, time, authenticated, timer);
     let line = stepped.line;
     let holds = line.holds;
-    settle_held(
+    settle_hold(
         table,
         entered,
         time,
-        move_of(stepped),
-        holds,
+        went_of(stepped),
+        first_end(holds),
         line.hold_count,
         answer,
     )
@@ -93,7 +93,7 @@ pub fn eap(
     }
     let found = unlisted_at(table, entered.at);
     let stepped = eap_packet(found, time, packet);
-    settle(table, entered, time, move_of(stepped), answer)
+    settle_standing(table, entered, time, went_of(stepped), answer)
 }
 
 // Writes the response that is owed, with AN-parameters and NAS.
@@ -115,5 +115,5 @@ pub fn reply(
     }
     let found = unlisted_at(table, entered.at);
     let stepped = session::reply(found, time, parameters, nas, reply);
-    settle(table, entered, time, move_of(stepped), answer)
+    settle_standing(table, entered, time, went_of(stepped), answer)
 }

@@ -47,7 +47,7 @@ pub fn read_child(b: &[u8], at: usize) -> Child
 }
 
 // Stores a child at a place.
-fn put_child(b: &mut [u8], at: usize, child: Child)
+pub fn put_child(b: &mut [u8], at: usize, child: Child)
     requires { ⌜ at + childLength ≤ length (now b) ⌝ }
     ensures { λ _. ⌜ Wrote (now (b .entry)) at (childOctets child) (now (b .exit)) ⌝ }
 {
@@ -91,6 +91,22 @@ pub fn has_spi(list: [Child; CHILDREN], from: usize, n: usize, spi: u64) -> bool
     let mut i = from;
     while i < n {
         let child = list[i];
+        if spi == child.spi {
+            return true;
+        }
+        i += 1;
+    }
+    false
+}
+
+// Whether an SPI is that of one of the n children at a place.
+pub fn has_spi_at(b: &[u8], at: usize, n: usize, spi: u64) -> bool
+    requires { ⌜ (at + childrenRoom ≤ length (now b)) × (n ≤ mostChildren) ⌝ }
+    ensures { λ r. ⌜ r ≡ hasSpi spi (childrenFrom (now (b .entry)) at n) ⌝ }
+{
+    let mut i = 0;
+    while i < n {
+        let child = read_child(b, at + CHILD * i);
         if spi == child.spi {
             return true;
         }

@@ -3,14 +3,19 @@ use address::Address;
 use address::HOLDS;
 use address::Hold;
 use address::is_permitted;
+use address::version;
 use addresses::ADDRESS;
+use lists::ENTRIES;
 use lists::address_at;
-ghost use mathlib.Core.List.{[], _∷_};
+ghost use mathlib.Core.List.{List, [], _∷_};
 ghost use mathlib.Core.Path.{_≡_};
-ghost use Prim.Native.Nat.{_≤_};
-ghost use lib.ListN.{take};
+ghost use Prim.Native.Nat.{_*_, _≤_};
+ghost use lib.ListN.{length, take};
 ghost use Rattle.address.specs.Address.{heldAddresses, mostHolds};
-ghost use Rattle.lists.specs.Lists.{addressesIn};
+ghost use Rattle.address.specs.declared.Address.{Address};
+ghost use Rattle.addresses.specs.Addresses.{addressLength};
+ghost use Rattle.lists.specs.Held.{HeldAre};
+ghost use Rattle.lists.specs.Lists.{addressesIn, mostEntries};
 ghost use Rattle.gateway.specs.Gateway.{choose};
 ghost use Rattle.gateway.specs.Laws.{Laws};
 
@@ -22,16 +27,16 @@ pub enum Found {
     Nothing(usize),
 }
 
-// Chooses from a list of addresses.
-pub fn choose(list: &[u8], local: u64, holds: [Hold; HOLDS], n: usize) -> Found
-    requires { ⌜ n ≤ mostHolds ⌝ }
-    ensures { λ r. ⌜ r ≡ choose local (heldAddresses (take n holds)) (addressesIn (now (list .entry))) ⌝ }
+// Chooses from a list of addresses, of each of which it is told whether it is on hold.
+pub fn choose(list: &[u8], local: u64, held: [bool; ENTRIES]) -> Found
+    requires { ⌜ length (now list) ≤ addressLength * mostEntries ⌝ }
+    ensures { λ r. ⌜ ((hs : List Address) → HeldAre held (now (list .entry)) hs → r ≡ choose local hs (addressesIn (now (list .entry)))) ⌝ }
 {
     let count = list.len() / ADDRESS;
     let mut i = 0;
     while i < count {
         let a = address_at(list, i);
-        if is_permitted(a, local, holds, n) {
+        if (version(a) == local) & !held[i] {
             return Found::Chosen(a, i);
         }
         i += 1;

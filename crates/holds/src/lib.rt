@@ -4,6 +4,7 @@ use address::End;
 use address::HOLDS;
 use address::Hold;
 use address::is_held;
+use address::same_address;
 use addresses::ADDRESS;
 use addresses::is_address;
 use addresses::key_at;
@@ -21,17 +22,17 @@ ghost use Rattle.octets.specs.Digits.{field};
 ghost use Rattle.octets.specs.Part.{Wrote};
 ghost use Rattle.octets.specs.Row.{joined, only};
 ghost use Rattle.octets.specs.Search.{allOf};
-ghost use Rattle.address.specs.Address.{heldAddresses, mostHolds};
+ghost use Rattle.address.specs.Address.{heldAddresses, mostHolds, stands};
 ghost use Rattle.addresses.specs.Addresses.{addressLength};
 ghost use Rattle.holds.specs.Holds.{different, endAfter, endNumber, endOf, endsAfter, holdFrom, holdLength, holdOctets, holdsFrom, holdsRoom, holdsWritten};
 ghost use Rattle.holds.specs.Keys.{KeysOf};
 ghost use Rattle.holds.specs.Laws.{Laws};
 
 // The octets of a hold.
-const LENGTH: usize = ADDRESS + 5;
+pub const HOLD: usize = ADDRESS + 5;
 
 // The octets of all the holds that a line has room for.
-pub const HOLDS_ROOM: usize = HOLDS * LENGTH;
+pub const HOLDS_ROOM: usize = HOLDS * HOLD;
 
 // The end of a hold as a number.
 fn end_number(end: End) -> u64
@@ -64,7 +65,7 @@ fn read_hold(b: &[u8], at: usize) -> Hold
 }
 
 // Stores a hold at a place.
-fn put_hold(b: &mut [u8], at: usize, hold: Hold)
+pub fn put_hold(b: &mut [u8], at: usize, hold: Hold)
     requires { ⌜ at + holdLength ≤ length (now b) ⌝ }
     ensures { λ _. ⌜ Wrote (now (b .entry)) at (holdOctets hold) (now (b .exit)) ⌝ }
 {
@@ -85,7 +86,7 @@ pub fn read_holds(b: &[u8], at: usize, n: usize) -> [Hold; HOLDS]
     }; HOLDS];
     let mut i = 0;
     while i < n {
-        list[i] = read_hold(b, at + LENGTH * i);
+        list[i] = read_hold(b, at + HOLD * i);
         i += 1;
     }
     list
@@ -100,7 +101,7 @@ pub fn put_holds(b: &mut [u8], at: usize, list: [Hold; HOLDS], n: usize)
     let mut i = 0;
     while i < n {
         let hold = list[i];
-        put_hold(b, at + LENGTH * i, hold);
+        put_hold(b, at + HOLD * i, hold);
         i += 1;
     }
 }
@@ -122,12 +123,27 @@ pub fn all_in_force(b: &[u8], at: usize, n: usize, time: u64) -> bool
 {
     let mut i = 0;
     while i < n {
-        if !ends_at_after(b, at + LENGTH * i, time) {
+        if !ends_at_after(b, at + HOLD * i, time) {
             return false;
         }
         i += 1;
     }
     true
+}
+
+// Whether one of the n holds at a place is for an address and has not ended at a time.
+pub fn is_held_at(b: &[u8], at: usize, n: usize, time: u64, a: Address) -> bool
+    requires { ⌜ (at + holdsRoom ≤ length (now b)) × (n ≤ mostHolds) ⌝ }
+    ensures { λ r. ⌜ r ≡ stands a (heldAddresses (only (endsAfter time) (holdsFrom (now (b .entry)) at n))) ⌝ }
+{
+    let mut i = 0;
+    while i < n {
+        if same_address(a, read_address(b, at + HOLD * i)) & ends_at_after(b, at + HOLD * i, time) {
+            return true;
+        }
+        i += 1;
+    }
+    false
 }
 
 // Whether at most 8 holds stand at a place, each with an address and not ended at a time, and zeros behind them.
@@ -143,15 +159,15 @@ pub fn stand_in_force(b: &[u8], at: usize, n: usize, time: u64) -> bool
     }
     let mut i = 0;
     while i < n {
-        if !is_address(b, at + LENGTH * i) {
+        if !is_address(b, at + HOLD * i) {
             return false;
         }
-        if !ends_at_after(b, at + LENGTH * i, time) {
+        if !ends_at_after(b, at + HOLD * i, time) {
             return false;
         }
         i += 1;
     }
-    zeros_at(b, at + LENGTH * n, HOLDS_ROOM - LENGTH * n)
+    zeros_at(b, at + HOLD * n, HOLDS_ROOM - HOLD * n)
 }
 
 // The keys of the first n addresses held, and the key `other` in the last of the eight places where that is free.
@@ -162,7 +178,7 @@ pub fn keys(b: &[u8], at: usize, n: usize, other: u64) -> [u64; HOLDS]
     let mut list = [0u64; HOLDS];
     let mut i = 0;
     while i < HOLDS {
-        let key = key_at(b, at + LENGTH * i);
+        let key = key_at(b, at + HOLD * i);
         let free = pick(i == HOLDS - 1, other, i as u64);
         list[i] = pick(i < n, key, free);
         i += 1;

@@ -1,5 +1,5 @@
 -- The events that come with numbers alone.
-use Rattle.rules.specs.Call.{Event, begin, child-deleted, child-made, error, final, give-up, ike-delete, init}
+use Rattle.rules.specs.Call.{Event, begin, child-deleted, error, final, give-up, ike-delete, init}
 use Rattle.ike.specs.declared.event.IkeEvent.{IkeEvent}
 use Rattle.ike.specs.declared.event.IkeEvent.the-variants as IkeEvent
 use Rattle.ike.specs.declared.event.TunnelEvent.{TunnelEvent}
@@ -15,6 +15,5 @@ eventOf IkeEvent.GiveUp = give-up
 
 -- the same of an event of a tunnel
 abbrev pub tunnelEventOf : TunnelEvent → Event
-tunnelEventOf (TunnelEvent.ChildMade spi session) = child-made spi session
 tunnelEventOf (TunnelEvent.ChildDeleted spi) = child-deleted spi
 tunnelEventOf TunnelEvent.IkeDelete = ike-delete

@@ -6,7 +6,6 @@ use crate::final_answer;
 use crate::give_up;
 use crate::init_answer;
 use crate::tunnel::child_deleted;
-use crate::tunnel::child_made;
 use crate::tunnel::ike_delete;
 use record::Record;
 use step::Stepped;
@@ -29,8 +28,6 @@ pub enum IkeEvent {
 
 // An event that changes the children of a live line.
 pub enum TunnelEvent {
-    // SPI and session.
-    ChildMade(u64, u64),
     // SPI.
     ChildDeleted(u64),
     IkeDelete,
@@ -58,7 +55,6 @@ pub fn tunnel_step_of(line: Record, time: u64, event: TunnelEvent) -> Stepped
     ensures { λ r. ⌜ InArrays (r .line) ⌝ }
 {
     match event {
-        TunnelEvent::ChildMade(spi, session) => child_made(line, time, spi, session),
         TunnelEvent::ChildDeleted(spi) => child_deleted(line, time, spi),
         TunnelEvent::IkeDelete => ike_delete(line, time),
     }

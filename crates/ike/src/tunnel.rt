@@ -15,16 +15,18 @@ use step::current;
 use step::goes;
 use step::is_late;
 use step::refused;
-ghost use mathlib.Core.List.{[]};
+ghost use mathlib.Core.List.{List, []};
 ghost use mathlib.Core.Path.{_≡_};
-ghost use Prim.Native.Nat.{_≤_};
-ghost use lib.ListN.{take};
-ghost use Rattle.children.specs.Children.{mostChildren};
+ghost use Prim.Native.Nat.{_≤_, _<_};
+ghost use lib.ListN.{length, take};
+ghost use Rattle.children.specs.Children.{hasSpi, mostChildren};
+ghost use Rattle.children.specs.declared.Child.{Child};
 ghost use Rattle.record.specs.Changes.{withChildren};
 ghost use Rattle.record.specs.Line.{lineOf, InArrays};
 ghost use Rattle.rules.specs.Call.{child-made, child-deleted, ike-delete};
 ghost use Rattle.rules.specs.Refusals.{isChild};
 ghost use Rattle.step.specs.Step.{effect, effectIn};
+ghost use Rattle.ike.specs.Made.{MadeOn};
 
 // The highest SPI.
 const MOST_SPI: u64 = 4294967295;
@@ -54,17 +56,16 @@ fn with_children(line: Record, children: [Child; CHILDREN], n: usize) -> Record
     }
 }
 
-// A child made: it stands behind the others.
-pub fn child_made(line: Record, time: u64, spi: u64, session: u64) -> Stepped
+// A child made, but for the child itself: whether its SPI is taken and how many children stand come with it.
+pub fn made(line: Record, time: u64, child: Child, taken: bool, n: usize) -> Stepped
     requires { ⌜ InArrays line ⌝ }
-    ensures { λ r. ⌜ effectIn r [] [] ≡ effect (child-made spi session) time (lineOf line) ⌝ }
-    ensures { λ r. ⌜ InArrays (r .line) ⌝ }
+    ensures { λ r. ⌜ ((cs : List Child) → taken ≡ hasSpi (child .spi) cs → n ≡ length cs → MadeOn r child cs ≡ effect (child-made (child .spi) (child .session)) time (withChildren (lineOf line) cs)) ⌝ }
+    ensures { λ r. ⌜ InArrays (r .line) × (r .refusal ≡ 0 → n < mostChildren) ⌝ }
 {
     let found = current(line, time);
     if is_late(time) {
         return refused(line, 8);
     }
-    let child = Child { spi, session };
     if !is_child(child) {
         return refused(line, 8);
     }
@@ -72,20 +73,36 @@ pub fn child_made(line: Record, time: u64, spi: u64, session: u64) -> Stepped
     if number(phase) != LIVE {
         return refused(line, 10);
     }
-    let mut children = found.children;
-    let n = found.child_count;
-    if has_spi(children, 0, n, spi) {
+    if taken {
         return refused(line, 11);
     }
     if CHILDREN <= n {
         return refused(line, 12);
     }
+    goes(found, phase, Action::Nothing)
+}
+
+// A child made: it stands behind the others.
+pub fn child_made(line: Record, time: u64, spi: u64, session: u64) -> Stepped
+    requires { ⌜ InArrays line ⌝ }
+    ensures { λ r. ⌜ effectIn r [] [] ≡ effect (child-made spi session) time (lineOf line) ⌝ }
+    ensures { λ r. ⌜ InArrays (r .line) ⌝ }
+{
+    let mut children = line.children;
+    let n = line.child_count;
+    let child = Child { spi, session };
+    let stepped = made(line, time, child, has_spi(children, 0, n, spi), n);
+    if stepped.refusal != 0 {
+        return refused(line, stepped.refusal);
+    }
     children[n] = child;
-    goes(
-        with_children(found, children, n + 1),
-        phase,
-        Action::Nothing,
-    )
+    let action = stepped.action;
+    let next = stepped.line;
+    Stepped {
+        refusal: 0,
+        line: with_children(next, children, n + 1),
+        action,
+    }
 }
 
 // A child deleted: those of other SPIs stay in their order.

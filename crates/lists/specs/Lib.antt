@@ -1,2 +1,3 @@
 -- The lists of networks and addresses that answers lend.
 pub mod Lists
+pub mod Held

@@ -16,7 +16,7 @@ ghost use Rattle.lists.specs.Lists.{addressAt, addressesFit, addressFits
 const NETWORK: usize = 4;
 
 // How many entries a lent list may have.
-const ENTRIES: usize = 16;
+pub const ENTRIES: usize = 16;
 
 // Whether a list has at most 16 whole entries of a size.
 fn is_whole(list: &[u8], size: usize) -> bool

@@ -31,7 +31,7 @@ ghost use Rattle.phase.specs.Branch.{isAsking, isCountry, isHaving, isEa
 ghost use Rattle.phase.specs.Phase.{askingOctets, havingFrom, havingOctets, isAbroad, isPhase, phaseFrom, phaseLength, phaseOctets, turnFrom, turnOctets, turnWritten};
 
 // How far an EAP session is, from 2 octets.
-fn read_turn(list: &[u8], at: usize) -> Turn
+pub fn read_turn(list: &[u8], at: usize) -> Turn
     requires { ⌜ at + 2 ≤ length (now list) ⌝ }
     ensures { λ r. ⌜ r ≡ turnFrom (now (list .entry)) at ⌝ }
 {

@@ -1,4 +1,5 @@
 -- The laws that the proofs of this crate share.
+pub mod Adding
 pub mod Counts
 pub mod Held
 pub mod Keeping

@@ -111,14 +111,14 @@ module _ (pair : ℕ) (x : Line) where
   unfolding be digits
   time-back h = says 4 (x .time) h (behind (be 1 pair) T 1 refl up-to-time)
 
-  phase-part : part l 5 20 ≡ phaseOctets (x .phase)
+  pub phase-part : part l 5 20 ≡ phaseOctets (x .phase)
   unfolding be digits
   phase-part = to-part (phaseOctets (x .phase)) 20 (Writes.phase-length (x .phase)) (behind (be 1 pair ++ T) (phaseOctets (x .phase)) 5 refl up-to-phase)
 
-  hold-count-back : length (x .holds) ≤ 8 → field l 25 1 ≡ length (x .holds)
+  pub hold-count-back : length (x .holds) ≤ 8 → field l 25 1 ≡ length (x .holds)
   hold-count-back few = says 1 (length (x .holds)) (omega arith) (behind H M 25 (head-length pair (x .time) (x .phase)) (before (H ++ M) N up-to-counts))
 
-  child-count-back : length (x .children) ≤ 8 → field l 26 1 ≡ length (x .children)
+  pub child-count-back : length (x .children) ≤ 8 → field l 26 1 ≡ length (x .children)
   child-count-back few = says 1 (length (x .children)) (omega arith) (behind (H ++ M) N 26 (first-count pair (x .time) (x .phase) (x .holds)) up-to-counts)
 
   holds-part : length (x .holds) ≤ 8 → part l 27 holdsRoom ≡ holdsOctets (x .holds)

@@ -108,7 +108,7 @@ module _ (l : List ℕ) where
   unfolding holdsFrom
   counted-holds = length-row (holdIn l 27) 0 m
 
-  counted-children : length cs ≡ n
+  pub counted-children : length cs ≡ n
   unfolding childrenFrom
   counted-children = length-row (childIn l childrenPlace) 0 n
 

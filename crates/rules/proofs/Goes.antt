@@ -29,6 +29,12 @@ onto put o = record { line = put (o .line); action = o .action; part = o .part; 
 abbrev pub phased : Line → Line → Line
 phased x z = inPhase x (z .phase)
 
+-- S5 takes nothing of a line
+pub found-goes : (x z : Line) (f : Found) → gatewayFound x f ≡ onto (phased x) (gatewayFound z f)
+unfolding gatewayFound goes inPhase
+found-goes x z (Found.Chosen a k) = refl
+found-goes x z (Found.Nothing k) = refl
+
 module _ (x y : Line) where
   -- the other line in the same phase
   abbrev seen : Line
@@ -57,18 +63,13 @@ module _ (x y : Line) where
   abbrev held : Line
   held = withHolds seen (x .holds)
 
-  found-goes : (f : Found) → gatewayFound x f ≡ onto (phased x) (gatewayFound held f)
-  unfolding gatewayFound goes inPhase
-  found-goes (Found.Chosen a k) = refl
-  found-goes (Found.Nothing k) = refl
-
   decided-goes : (f : Facts) (t : List ℕ) (c : Choice) → decided x f t c ≡ onto (phased x) (decided held f t c)
   unfolding decided goes nameAsked inPhase withHolds
   decided-goes f t (Choice.Stop n) = refl
   decided-goes f t (Choice.Country mcc) = refl
   decided-goes f t (Choice.Text at n) = refl
   decided-goes f t (Choice.Network p) = refl
-  decided-goes f t (Choice.Address a) = found-goes (choose (f .version) (heldAddresses (x .holds)) (a ∷ []))
+  decided-goes f t (Choice.Address a) = found-goes x held (choose (f .version) (heldAddresses (x .holds)) (a ∷ []))
 
   pub started-goes : (f : Facts) (t : List ℕ) (o : Option Settings) → started x f t o ≡ onto (phased x) (started held f t o)
   unfolding started goes inPhase
@@ -85,4 +86,4 @@ module _ (x y : Line) where
   pub addressed-goes : (o : Option Facts) (list : List Address) → addressAnswered x o list ≡ onto (phased x) (addressAnswered held o list)
   unfolding addressAnswered goes inPhase withHolds
   addressed-goes none list = refl
-  addressed-goes (some f) list = found-goes (choose (f .version) (heldAddresses (x .holds)) list)
+  addressed-goes (some f) list = found-goes x held (choose (f .version) (heldAddresses (x .holds)) list)

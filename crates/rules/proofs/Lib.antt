@@ -3,6 +3,7 @@ pub mod Accepted
 pub mod Acts
 pub mod After
 pub mod Authenticated
+pub mod Bare
 pub mod Children
 pub mod Current
 pub mod Eap

@@ -20,14 +20,7 @@ pub extern "C" fn scal_child_made(
 ) -> u64
     ensures { λ r. ⌜ returned r (now (answer .exit)) [] [] (now (table .exit)) ≡ run (timed tenant line time (child-made spi session)) (now (table .entry)) ⌝ }
 {
-    on_tunnel(
-        table,
-        tenant,
-        line,
-        time,
-        TunnelEvent::ChildMade(spi, session),
-        answer,
-    )
+    calls::tunnels::child_made(table, tenant, line, time, spi, session, answer)
 }
 
 // Takes a child association out.

@@ -1,4 +1,5 @@
 -- The table of records.
 pub mod Table
+pub mod Stores
 pub mod Slots
 pub mod Laws

@@ -1,8 +1,8 @@
 // The table of records.
-use address::HOLDS;
-use address::Hold;
+use address::End;
 use children::CHILDREN;
 use children::Child;
+use lists::ENTRIES;
 use octets::number::get;
 use octets::slice::part;
 use octets::slice::zero;
@@ -12,28 +12,42 @@ use record::PAIRS;
 use record::RECORD;
 use record::Record;
 use record::TIME_AT;
+use record::child_count_in;
+use record::has_spi_in;
+use record::held_in;
 use record::keep;
-use record::keep_held;
+use record::keep_child;
+use record::keep_hold;
+use record::keep_standing;
 use record::keep_tunnels;
 use record::put_fresh;
 use record::read_childless;
 use record::read_unheld;
 use record::read_unlisted;
 use record::sound::is_record;
-ghost use mathlib.Core.List.{[]};
+use standing::Standing;
+ghost use mathlib.Core.List.{[], _∷_, _++_};
+ghost use mathlib.Core.Option.{some};
 ghost use mathlib.Core.Path.{_≡_};
-ghost use Prim.Native.Nat.{_+_, _*_, _≤_};
+ghost use Prim.Native.Nat.{_+_, _*_, _≤_, _<_};
 ghost use lib.ListN.{length, take};
 ghost use Rattle.octets.specs.Digits.{field};
 ghost use Rattle.octets.specs.Part.{zeros, Wrote};
 ghost use Rattle.octets.specs.Search.{least};
-ghost use Rattle.address.specs.Address.{mostHolds};
-ghost use Rattle.children.specs.Children.{mostChildren};
+ghost use Rattle.address.specs.Address.{heldAddresses};
+ghost use Rattle.address.specs.declared.Address.{Address};
+ghost use Rattle.addresses.specs.Addresses.{addressLength};
+ghost use Rattle.children.specs.Children.{hasSpi, mostChildren};
+ghost use Rattle.lists.specs.Held.{HeldAre};
+ghost use Rattle.lists.specs.Lists.{mostEntries};
+ghost use Rattle.phase.specs.Chosen.{chosen};
+ghost use Rattle.standing.specs.Standing.{bare};
 ghost use Rattle.phase.specs.declared.Phase.the-variants.{Idle};
-ghost use Rattle.record.specs.Changes.{current, inPhase, unheld, withChildren, withHolds};
+ghost use Rattle.record.specs.Changes.{current, heldFor, inForce, inPhase, unheld, withChildren};
 ghost use Rattle.record.specs.Line.{lineOf, InArrays};
 ghost use Rattle.record.specs.Octets.{lineFrom, recordLength, recordOctets};
 ghost use Rattle.table.specs.Laws.{Laws};
+ghost use Rattle.table.specs.Stores.{GoesAt};
 ghost use Rattle.table.specs.Table.{hasPair, isTable, pairAt, recordCount, recordOf, slot, slotSound, tableLength, UsedAt};
 
 // How many records a table has, and how many octets.
@@ -133,22 +147,46 @@ pub fn childless_at(table: &[u8], i: usize) -> Record
     read_childless(part(table, RECORD * i, RECORD))
 }
 
-// The line of a used record, of which only the phase is known.
+// The line of a used record, of which only where its phase stands is known.
 pub fn unlisted_at(table: &[u8], i: usize) -> Record
     requires { ⌜ UsedAt (now table) i ⌝ }
-    ensures { λ r. ⌜ lineOf r ≡ unheld (lineFrom (slot (now (table .entry)) i) .phase) [] ⌝ }
+    ensures { λ r. ⌜ lineOf r ≡ unheld (bare (lineFrom (slot (now (table .entry)) i) .phase)) [] ⌝ }
     ensures { λ r. ⌜ InArrays r ⌝ }
 {
     read_unlisted(part(table, RECORD * i, RECORD))
 }
 
-// The line of a used record, of which only the phase and the children are known.
+// The line of a used record, of which only where its phase stands and the children are known.
 pub fn unheld_at(table: &[u8], i: usize) -> Record
     requires { ⌜ UsedAt (now table) i ⌝ }
-    ensures { λ r. ⌜ lineOf r ≡ unheld (lineFrom (slot (now (table .entry)) i) .phase) (lineFrom (slot (now (table .entry)) i) .children) ⌝ }
+    ensures { λ r. ⌜ lineOf r ≡ unheld (bare (lineFrom (slot (now (table .entry)) i) .phase)) (lineFrom (slot (now (table .entry)) i) .children) ⌝ }
     ensures { λ r. ⌜ InArrays r ⌝ }
 {
     read_unheld(part(table, RECORD * i, RECORD))
+}
+
+// How many children the line of a used record has.
+pub fn child_count_at(table: &[u8], i: usize) -> usize
+    requires { ⌜ UsedAt (now table) i ⌝ }
+    ensures { λ r. ⌜ r ≡ length (lineFrom (slot (now (table .entry)) i) .children) ⌝ }
+{
+    child_count_in(part(table, RECORD * i, RECORD))
+}
+
+// Whether an SPI is that of a child of the line of a used record.
+pub fn has_spi_at(table: &[u8], i: usize, spi: u64) -> bool
+    requires { ⌜ UsedAt (now table) i ⌝ }
+    ensures { λ r. ⌜ r ≡ hasSpi spi (lineFrom (slot (now (table .entry)) i) .children) ⌝ }
+{
+    has_spi_in(part(table, RECORD * i, RECORD), spi)
+}
+
+// Which addresses of a lent list the line of a used record holds at a time.
+pub fn held_at(table: &[u8], i: usize, time: u64, list: &[u8]) -> [bool; ENTRIES]
+    requires { ⌜ UsedAt (now table) i ⌝ }
+    ensures { λ r. ⌜ (length (now (list .entry)) ≤ addressLength * mostEntries → HeldAre r (now (list .entry)) (heldAddresses (inForce time (lineFrom (slot (now (table .entry)) i)) .holds))) ⌝ }
+{
+    held_in(part(table, RECORD * i, RECORD), time, list)
 }
 
 // Stores the time and the phase of the line in a used record, and drops its holds that have ended.
@@ -160,36 +198,47 @@ pub fn keep_at(table: &mut [u8], i: usize, time: u64, phase: Phase)
     keep(&mut table[at..at + RECORD], time, phase);
 }
 
-// Stores time and phase like `keep_at`, and the first n of a list as the children.
+// Stores the time and where the phase stands of the line in a used record, and drops its holds that have ended.
+pub fn keep_standing_at(table: &mut [u8], i: usize, time: u64, s: Standing)
+    requires { ⌜ UsedAt (now table) i ⌝ }
+    ensures { λ _. ⌜ GoesAt (now (table .entry)) i time s (now (table .exit)) (λ x. x) ⌝ }
+{
+    let at = RECORD * i;
+    keep_standing(&mut table[at..at + RECORD], time, s);
+}
+
+// Stores what `keep_standing_at` does and, as the children, the first n of a list.
 pub fn keep_tunnels_at(
     table: &mut [u8],
     i: usize,
     time: u64,
-    phase: Phase,
+    s: Standing,
     list: [Child; CHILDREN],
     n: usize,
 )
     requires { ⌜ UsedAt (now table) i × (n ≤ mostChildren) ⌝ }
-    ensures { λ _. ⌜ Wrote (now (table .entry)) (recordLength * i) (recordOctets (field (slot (now (table .entry)) i) 0 1) (withChildren (inPhase (current time (lineFrom (slot (now (table .entry)) i))) phase) (take n list))) (now (table .exit)) ⌝ }
+    ensures { λ _. ⌜ GoesAt (now (table .entry)) i time s (now (table .exit)) (λ x. withChildren x (take n list)) ⌝ }
 {
     let at = RECORD * i;
-    keep_tunnels(&mut table[at..at + RECORD], time, phase, list, n);
+    keep_tunnels(&mut table[at..at + RECORD], time, s, list, n);
 }
 
-// Stores time and phase like `keep_at`, and the first n of a list as the holds.
-pub fn keep_held_at(
-    table: &mut [u8],
-    i: usize,
-    time: u64,
-    phase: Phase,
-    list: [Hold; HOLDS],
-    n: usize,
-)
-    requires { ⌜ UsedAt (now table) i × (n ≤ mostHolds) ⌝ }
-    ensures { λ _. ⌜ Wrote (now (table .entry)) (recordLength * i) (recordOctets (field (slot (now (table .entry)) i) 0 1) (withHolds (inPhase (current time (lineFrom (slot (now (table .entry)) i))) phase) (take n list))) (now (table .exit)) ⌝ }
+// Stores what `keep_standing_at` does, and a child behind the others.
+pub fn keep_child_at(table: &mut [u8], i: usize, time: u64, s: Standing, child: Child)
+    requires { ⌜ UsedAt (now table) i × (length (lineFrom (slot (now table) i) .children) < mostChildren) ⌝ }
+    ensures { λ _. ⌜ GoesAt (now (table .entry)) i time s (now (table .exit)) (λ x. withChildren x (x .children ++ child ∷ [])) ⌝ }
 {
     let at = RECORD * i;
-    keep_held(&mut table[at..at + RECORD], time, phase, list, n);
+    keep_child(&mut table[at..at + RECORD], time, s, child);
+}
+
+// Stores the time of a line that has a chosen address; the line is idle, and the address is held behind the holds in force where the count is 1.
+pub fn keep_hold_at(table: &mut [u8], i: usize, time: u64, end: End, count: usize)
+    requires { ⌜ UsedAt (now table) i × (count ≤ 1) ⌝ }
+    ensures { λ _. ⌜ ((a : Address) → chosen (lineFrom (slot (now (table .entry)) i) .phase) ≡ some a → Wrote (now (table .entry)) (recordLength * i) (recordOctets (field (slot (now (table .entry)) i) 0 1) (heldFor time a end count (lineFrom (slot (now (table .entry)) i)))) (now (table .exit))) ⌝ }
+{
+    let at = RECORD * i;
+    keep_hold(&mut table[at..at + RECORD], time, end, count);
 }
 
 // Stores the record of a pair that was just opened.

@@ -1,114 +1,66 @@
--- `attempt::address_answer` meets its contract: each return has passed the tests before it.
-use mathlib.Core.Bool.{not}
-use mathlib.Core.Path.{refl, sym, ap, _∙_}
+-- `attempt::address_answer` meets its contract: the answer is the one on the line with the holds that are in force.
+use mathlib.Core.List.{List}
+use mathlib.Core.Path.{ap, subst}
 use denote.Ref.{now}
 use borrow.Author.Needs.{needs}
-use Rattle.octets.specs.Part.{padded, zeros}
-use Rattle.phase.specs.Stage as Stage
-use Rattle.phase.proofs.Stages.{other-stage, same-stage, tags}
-use Rattle.record.specs.Line.{lineOf}
-use Rattle.rules.specs.Answer.{eventRoom}
-use Rattle.rules.specs.Call.{address}
-use Rattle.rules.specs.Life.{goes}
-use Rattle.rules.specs.Refusals.{hasNoRoom, isAllowed, isHeldFull, isMalformed, isOutOfRange, isSpiTaken}
-use Rattle.step.proofs.Steps.{accepted, late, taken, turned-away, unfit, untimely}
-use Rattle.attempt.proofs.Outcomes.{of-addresses}
+use Rattle.address.specs.Address.{heldAddresses}
+use Rattle.address.specs.declared.Hold.{Hold}
+use Rattle.lists.specs.Held.{HeldAre}
+use Rattle.record.specs.Changes.{current}
+use Rattle.record.specs.Line.{Line, lineOf}
+use Rattle.attempt.proofs.Held.{carried-on, sent-back}
 use Rattle.attempt.proofs.address_answer.Statement.{statement}
 use Rattle.attempt.proofs.address_answer.Tie as tie
 
 current-requires : tie.Need-current-requires
 current-requires c κs = search needs
 
-is-late-requires : tie.Need-is-late-requires
-is-late-requires c κs = search needs
+held-among-requires : tie.Need-held-among-requires
+held-among-requires c κs = search needs
+
+answered-requires : tie.Need-answered-requires
+answered-requires c κs = search needs
 
 refused-requires : tie.Need-refused-requires
 refused-requires c κs = search needs
 
 returns : tie.Need-returns
-unfolding eventRoom zeros
+unfolding lineOf current
 returns c =
-    let a = c .before .before .before .before .before .args in
-    let found = c .before .before .before .current in
-    let is-late = sym (c .before .before .is-late .ensures) ∙ c .before .if1 .taken in
+    let first = c .before .before .before in
+    let a = first .before .before .before .before .before .args in
+    let l = now (a .addresses) in
+    let found = first .before .before .before .current in
+    let in-force = ap (λ (x : Line). x .holds) (found .ensures .0) in
+    let are = first .before .held-among in
+    let told = first .answered .ensures .0 (lineOf (a .line) .holds) (λ h. subst (λ (hs : List Hold). HeldAre (are .result) l (heldAddresses hs)) in-force (are .ensures h)) in
     let gives = c .refused .ensures in
-    (turned-away (address (now (a .addresses))) _ _ (found .result) _ (found .ensures .0) 7 (late _ _ _ is-late) gives, gives .in-arrays)
-
-addresses-fit-requires : tie.Need-addresses-fit-requires
-addresses-fit-requires c κs = search needs
-
-refused-requires-2 : tie.Need-refused-requires-2
-refused-requires-2 c κs = search needs
-
-returns-2 : tie.Need-returns-2
-unfolding eventRoom zeros isOutOfRange
-returns-2 c =
-    let a = c .before .before .before .before .before .before .before .args in
-    let found = c .before .before .before .before .before .current in
-    let timely = sym (c .before .before .before .before .is-late .ensures) ∙ c .before .before .before .if1 .left in
-    let is-unfit = sym (ap not (c .before .before .addresses-fit .ensures)) ∙ c .before .if2 .taken in
-    let gives = c .refused2 .ensures in
-    (turned-away (address (now (a .addresses))) _ _ (found .result) _ (found .ensures .0) 7 (unfit _ _ _ timely is-unfit) gives, gives .in-arrays)
-
-enum-known-phase : tie.Need-enum-known-phase
-enum-known-phase c = search needs
-
-refused-requires-3 : tie.Need-refused-requires-3
-refused-requires-3 c κs = search needs
-
-returns-3 : tie.Need-returns-3
-unfolding eventRoom zeros isOutOfRange isMalformed isAllowed lineOf
-returns-3 c =
-    let a = c .before .before .before .before .before .before .before .before .args in
-    let found = c .before .before .before .before .before .before .current in
-    let timely = sym (c .before .before .before .before .before .is-late .ensures) ∙ c .before .before .before .before .if1 .left in
-    let fit = sym (ap not (c .before .before .before .addresses-fit .ensures)) ∙ c .before .before .if2 .left in
-    let gives = c .refused3 .ensures in (
-      turned-away (address (now (a .addresses))) _ (a .line) (found .result) _ (found .ensures .0) 9
-          (untimely _ _ _ timely fit refl (other-stage Stage.name _ tags (c .before .match .keys2))) gives,
-      gives .in-arrays,
-    )
-
-choose-requires : tie.Need-choose-requires
-choose-requires c κs = search needs
-
-gateway-found-requires : tie.Need-gateway-found-requires
-gateway-found-requires c κs = search needs
+    (sent-back l (a .time) (a .line) (found .result) (first .answered .result) _ (found .ensures .0) told (c .before .if1 .taken) gives, gives .in-arrays)
 
 goes-requires : tie.Need-goes-requires
-goes-requires c κs = c .before .before .before .before .before .before .before .before .before .before .current .ensures .1
+goes-requires c κs = search needs
 
-returns-4 : tie.Need-returns-4
-unfolding eventRoom zeros padded isOutOfRange isMalformed isAllowed isSpiTaken hasNoRoom isHeldFull goes lineOf
-returns-4 c =
-    let first = c .before .before .before .before .before .before .before in
-    let a = first .before .before .before .before .before .before .args in
-    let found = first .before .before .before .before .current in
-    let timely = sym (first .before .before .before .is-late .ensures) ∙ first .before .before .if1 .left in
-    let fit = sym (ap not (first .before .addresses-fit .ensures)) ∙ first .if2 .left in
-    let in-name = c .before .before .before .before .before .phase .given .1 in
-    let gives = c .goes .ensures in (
-      taken (address (now (a .addresses))) _ (a .line) (found .result) _ (found .ensures .0)
-          (accepted _ _ _ timely fit refl (same-stage in-name) refl refl refl)
-          _ (of-addresses _ (lineOf (found .result)) _ _ _ in-name (c .before .before .choose .ensures) (c .before .gateway-found .ensures)) gives,
-      gives .in-arrays,
-    )
+returns-2 : tie.Need-returns-2
+unfolding lineOf current
+returns-2 c =
+    let first = c .before .before .before .before in
+    let a = first .before .before .before .before .before .args in
+    let l = now (a .addresses) in
+    let found = first .before .before .before .current in
+    let in-force = ap (λ (x : Line). x .holds) (found .ensures .0) in
+    let are = first .before .held-among in
+    let told = first .answered .ensures .0 (lineOf (a .line) .holds) (λ h. subst (λ (hs : List Hold). HeldAre (are .result) l (heldAddresses hs)) in-force (are .ensures h)) in
+    let gives = c .goes .ensures in
+    (carried-on l (a .time) (a .line) (found .result) (first .answered .result) _ (found .ensures .0) told (c .before .before .if1 .left) gives, gives .in-arrays)
 
 pub address-answer-spec : {M : Type 1} → statement M
 address-answer-spec =
     tie.close
     (tie.spec
     current-requires
-    is-late-requires
+    held-among-requires
+    answered-requires
     refused-requires
     returns
-    addresses-fit-requires
-    refused-requires-2
-    returns-2
-    enum-known-phase
-    refused-requires-3
-    returns-3
-    choose-requires
-    gateway-found-requires
     goes-requires
-    returns-4)
+    returns-2)

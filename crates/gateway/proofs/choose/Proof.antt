@@ -1,18 +1,19 @@
--- `gateway::choose` meets its contract. The loop's invariant: the addresses passed are not permitted, so the place found among all is found
--- among those that are left.
+-- `gateway::choose` meets its contract: for every list of held addresses that the array tells of, the addresses passed are not permitted, so
+-- the place found among all is found among those that are left.
 use Prim.Native.Nat.{ℕ, _+_, _-_, _≤_, _<_}
-use mathlib.Core.Bool.{true, false}
+use mathlib.Core.Bool.{Bool, true, false, not, _&&_}
 use mathlib.Core.List.{List}
-use mathlib.Core.Path.{_≡_, sym, ap, _∙_}
+use mathlib.Core.Path.{_≡_, sym, ap, ap₂, _∙_}
 use native.Mathlib.Nat.{zero-add, sub-zero}
 use native.Mathlib.Omega.{arith}
 use denote.Ref.{now}
-use lib.ListN.{take}
+use lib.Dec.{eqb}
 use borrow.Author.Needs.{needs}
 use Rattle.octets.specs.Row.{row, place}
 use Rattle.octets.proofs.Rows.{drop-row, row-more, row-done, place-more, place-here, place-none}
-use Rattle.address.specs.Address.{heldAddresses, permitted}
+use Rattle.address.specs.Address.{permitted, stands, versionOf}
 use Rattle.address.specs.declared.Address.{Address}
+use Rattle.lists.specs.Held.{HeldAre}
 use Rattle.lists.specs.Lists.{addressAt, addressesIn}
 use Rattle.gateway.specs.declared.Found.the-variants.{Chosen, Nothing}
 use Rattle.gateway.specs.Gateway.{choose, foundAt}
@@ -28,22 +29,23 @@ abbrev foundFrom : ℕ → List Address → (ℕ → Address) → ℕ → ℕ �
 foundFrom local held f n i = i + place (permitted local held) (row f i (n - i))
 
 abbrev Inv-loop : tie.InvT-loop
-Inv-loop list local holds n count i₀ i = (i ≤ count) × (found local (heldAddresses (take n holds)) (addressAt list) count ≡ foundFrom local (heldAddresses (take n holds)) (addressAt list) count i)
+Inv-loop list local held count i₀ i = (i ≤ count) × ((hs : List Address) → HeldAre held list hs → found local hs (addressAt list) count ≡ foundFrom local hs (addressAt list) count i)
 
 abbrev μ-loop : tie.MeasureT-loop
-μ-loop list local holds n count i₀ i = count - i
+μ-loop list local held count i₀ i = count - i
+
+-- the test of the version and of what is told is that of the definition
+told : (local : ℕ) (held : List Address) (a b : Address) (v : ℕ) (t u : Bool) → v ≡ versionOf a → a ≡ b → t ≡ stands b held → eqb v local && not t ≡ u → permitted local held b ≡ u
+unfolding permitted
+told local held a b v t u of e s test = sym (ap₂ (λ (w : ℕ) (x : Bool). eqb w local && not x) (of ∙ ap versionOf e) s) ∙ test
 
 module _ (local : ℕ) (held : List Address) (f : ℕ → Address) (i n : ℕ) (left : found local held f n ≡ foundFrom local held f n i) where
   -- the next address is permitted
-  hit : i < n → (a : Address) → a ≡ f i → permitted local held a ≡ true → Chosen a i ≡ choose local held (row f 0 n)
+  hit : i < n → (a : Address) → a ≡ f i → permitted local held (f i) ≡ true → Chosen a i ≡ choose local held (row f 0 n)
   unfolding choose foundAt
   hit h a e t =
-      let here : found local held f n ≡ i = left ∙ place-here f (permitted local held) i n h (sym (ap (permitted local held) e) ∙ t) in
+      let here : found local held f n ≡ i = left ∙ place-here f (permitted local held) i n h t in
       rw (here, drop-row f i 0 n, zero-add i, row-more f i n h, e)
-
-  -- it is not
-  miss : i < n → (a : Address) → a ≡ f i → permitted local held a ≡ false → found local held f n ≡ foundFrom local held f n (i + 1)
-  miss h a e t = left ∙ place-more f (permitted local held) i n h (sym (ap (permitted local held) e) ∙ t)
 
   -- none is left
   none : n ≤ i → Nothing i ≡ choose local held (row f 0 n)
@@ -53,21 +55,27 @@ module _ (local : ℕ) (held : List Address) (f : ℕ → Address) (i n : ℕ) (
       rw (here, drop-row f i 0 n, zero-add i, row-done f i n h)
 
 loop-holds : tie.Need-loop-holds Inv-loop μ-loop
-loop-holds c = (search needs, rw (sub-zero, zero-add))
+loop-holds c = (search needs, λ hs told-of. rw (sub-zero, zero-add))
 
 address-at-requires : tie.Need-address-at-requires Inv-loop μ-loop
 address-at-requires c κs = omega arith
 
-is-permitted-requires : tie.Need-is-permitted-requires Inv-loop μ-loop
-is-permitted-requires c κs = search needs
+version-requires : tie.Need-version-requires Inv-loop μ-loop
+version-requires c κs = search needs
+
+array-read-if1 : tie.Need-array-read-if1 Inv-loop μ-loop
+array-read-if1 c = search needs
 
 returns : tie.Need-returns Inv-loop μ-loop
 unfolding addressesIn
 returns c =
+    λ hs held-are.
     let a = c .before .before .before .before .before .before .args in
     let at-loop = c .before .before .before .before .loop in
-    hit (a .local) (heldAddresses (take (a .n) (a .holds))) (addressAt (now (a .list))) (at-loop .i) _ (at-loop .inv .1) (c .before .before .before .loop-test .taken) (c .before .before .address-at .result) (c .before .before .address-at .ensures)
-    (sym (c .before .is-permitted .ensures) ∙ c .if1 .taken)
+    let h = c .before .before .before .loop-test .taken in
+    let at = c .before .before .address-at in
+    hit (a .local) hs (addressAt (now (a .list))) (at-loop .i) _ (at-loop .inv .1 hs held-are) h (at .result) (at .ensures)
+    (told _ hs (at .result) _ (c .before .version .result) _ true (c .before .version .ensures) (at .ensures) (held-are (at-loop .i) (omega arith)) (c .if1 .taken))
 
 add-i : tie.Need-add-i Inv-loop μ-loop
 add-i c = search needs
@@ -78,18 +86,21 @@ loop-less c = search needs
 loop-again : tie.Need-loop-again Inv-loop μ-loop
 loop-again c =
     let a = c .before .before .before .before .before .before .args in
-    let at-loop = c .before .before .before .before .loop in (
+    let at-loop = c .before .before .before .before .loop in
+    let h = c .before .before .before .loop-test .taken in
+    let at = c .before .before .address-at in (
       search needs,
-      miss (a .local) (heldAddresses (take (a .n) (a .holds))) (addressAt (now (a .list))) (at-loop .i) _ (at-loop .inv .1) (c .before .before .before .loop-test .taken) (c .before .before .address-at .result) (c .before .before .address-at .ensures)
-          (sym (c .before .is-permitted .ensures) ∙ c .if1 .left),
+      λ hs held-are. at-loop .inv .1 hs held-are ∙ place-more (addressAt (now (a .list))) (permitted (a .local) hs) (at-loop .i) _ h
+          (told _ hs (at .result) _ (c .before .version .result) _ false (c .before .version .ensures) (at .ensures) (held-are (at-loop .i) (omega arith)) (c .if1 .left)),
     )
 
 returns-2 : tie.Need-returns-2 Inv-loop μ-loop
 unfolding addressesIn
 returns-2 c =
+    λ hs held-are.
     let a = c .before .before .before .args in
     let at-loop = c .before .loop in
-    none (a .local) (heldAddresses (take (a .n) (a .holds))) (addressAt (now (a .list))) (at-loop .i) _ (at-loop .inv .1) (c .loop-test .left)
+    none (a .local) hs (addressAt (now (a .list))) (at-loop .i) _ (at-loop .inv .1 hs held-are) (c .loop-test .left)
 
 pub choose-spec : {M : Type 1} → statement M
 choose-spec =
@@ -99,7 +110,8 @@ choose-spec =
     μ-loop
     loop-holds
     address-at-requires
-    is-permitted-requires
+    version-requires
+    array-read-if1
     returns
     add-i
     loop-less

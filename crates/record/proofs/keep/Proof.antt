@@ -1,20 +1,12 @@
--- `record::keep` meets its contract: the time and the phase are written, and the holds that are left where one has ended.
-use native.Mathlib.Omega.{arith}
+-- `record::keep` meets its contract: the holds that have ended are dropped, and the time and the phase are written.
 use denote.Ref.{now}
 use borrow.Author.Needs.{needs}
-use Rattle.record.proofs.Keeping.{none-ended, some-ended}
-use Rattle.record.proofs.Lines.{at-most}
-use Rattle.record.proofs.Sounds.{hold-octet}
+use Rattle.record.proofs.Keeping.{kept-in}
 use Rattle.record.proofs.keep.Statement.{statement}
 use Rattle.record.proofs.keep.Tie as tie
 
-get-requires : tie.Need-get-requires
-get-requires c κs = search needs
-
-all-in-force-requires : tie.Need-all-in-force-requires
-all-in-force-requires c κs =
-    let pre = c .before .before .before .before .pre in
-    (search needs, at-most (c .before .get .ensures .0) (hold-octet _ (pre .1)))
+drop-ended-requires : tie.Need-drop-ended-requires
+drop-ended-requires c κs = search needs
 
 put-head-requires : tie.Need-put-head-requires
 put-head-requires c κs = search needs
@@ -24,53 +16,11 @@ same-length c = search needs
 
 returns : tie.Need-returns
 returns c =
-    let tested = c .before .before .before .before in
-    let first = tested .before .before .before in
-    let start = first .before .before .before in
+    let dropped = c .before .before .before .before .before .before in
+    let start = dropped .before .before .before in
     let a = start .args in
-    none-ended (now (a .b)) (λ i. first .before .before .slice-known .given i .fits) (start .pre .0) (start .pre .1) (a .time) (a .phase)
-    (first .get .ensures .0) (tested .before .all-in-force .ensures) (tested .if1 .taken) (c .before .before .put-head .ensures)
-
-read-holds-requires : tie.Need-read-holds-requires
-read-holds-requires c κs =
-    let first = c .before .before .before .before in
-    (search needs, at-most (first .get .ensures .0) (hold-octet _ (first .before .before .before .pre .1)))
-
-in-force-requires : tie.Need-in-force-requires
-in-force-requires c κs =
-    let first = c .before .before .before .before .before in
-    at-most (first .get .ensures .0) (hold-octet _ (first .before .before .before .pre .1))
-
-keep-held-requires : tie.Need-keep-held-requires
-keep-held-requires c κs =
-    let standing = c .before .before in
-    let first = standing .before .before .before .before .before .before in
-    let few = at-most (first .get .ensures .0) (hold-octet _ (first .before .before .before .pre .1)) in
-    (search needs, search needs, omega (arith, standing .in-force .ensures .1, few))
-
-same-length-2 : tie.Need-same-length-2
-same-length-2 c = search needs
-
-returns-2 : tie.Need-returns-2
-returns-2 c =
-    let standing = c .before .before .before .before .before in
-    let first = standing .before .before .before .before .before .before in
-    let start = first .before .before .before in
-    let a = start .args in
-    some-ended (now (a .b)) (λ i. first .before .before .slice-known .given i .fits) (start .pre .0) (start .pre .1) (a .time) (a .phase)
-    (first .get .ensures .0) (standing .before .read-holds .ensures) (standing .in-force .ensures .0) (c .before .before .keep-held .ensures)
+    kept-in (now (a .b)) (start .pre .1) (a .time) (a .phase) (dropped .drop-ended .ensures) (c .before .before .put-head .ensures)
 
 pub keep-spec : {M : Type 1} → statement M
 keep-spec =
-    tie.close
-    (tie.spec
-    get-requires
-    all-in-force-requires
-    put-head-requires
-    same-length
-    returns
-    read-holds-requires
-    in-force-requires
-    keep-held-requires
-    same-length-2
-    returns-2)
+    tie.close (tie.spec drop-ended-requires put-head-requires same-length returns)

@@ -1,4 +1,4 @@
--- `record::read_unheld` meets its contract: the phase and the children are read at their places.
+-- `record::read_unheld` meets its contract: where the phase stands and the children are read at their places.
 use mathlib.Core.Path.{ap, ap₂, _∙_}
 use denote.Ref.{now}
 use borrow.Author.Needs.{needs}
@@ -14,8 +14,8 @@ get-requires c κs = search needs
 read-children-requires : tie.Need-read-children-requires
 read-children-requires c κs = search needs
 
-read-phase-requires : tie.Need-read-phase-requires
-read-phase-requires c κs = search needs
+read-bare-requires : tie.Need-read-bare-requires
+read-bare-requires c κs = search needs
 
 unheld-requires : tie.Need-unheld-requires
 unheld-requires c κs = search needs
@@ -27,9 +27,9 @@ returns c =
     let children = c .before .before in
     let start = children .before .before .before in
     let l = now (start .args .b) in
-    (r .0 ∙ ap₂ unheld (c .before .read-phase .ensures) (children .read-children .ensures ∙ ap (childrenFrom l childrenPlace) (children .before .get .ensures .0)), r .1)
+    (r .0 ∙ ap₂ unheld (c .before .read-bare .ensures) (children .read-children .ensures ∙ ap (childrenFrom l childrenPlace) (children .before .get .ensures .0)), r .1)
 
 pub read-unheld-spec : {M : Type 1} → statement M
 read-unheld-spec =
     tie.close
-    (tie.spec get-requires read-children-requires read-phase-requires unheld-requires returns)
+    (tie.spec get-requires read-children-requires read-bare-requires unheld-requires returns)

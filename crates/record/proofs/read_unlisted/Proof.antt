@@ -1,4 +1,4 @@
--- `record::read_unlisted` meets its contract: the phase is read at its place.
+-- `record::read_unlisted` meets its contract: where the phase stands is read at its place.
 use mathlib.Core.List.{[]}
 use mathlib.Core.Path.{ap, _∙_}
 use borrow.Author.Needs.{needs}
@@ -8,8 +8,8 @@ use Rattle.record.specs.Octets.{lineFrom}
 use Rattle.record.proofs.read_unlisted.Statement.{statement}
 use Rattle.record.proofs.read_unlisted.Tie as tie
 
-read-phase-requires : tie.Need-read-phase-requires
-read-phase-requires c κs = search needs
+read-bare-requires : tie.Need-read-bare-requires
+read-bare-requires c κs = search needs
 
 unheld-requires : tie.Need-unheld-requires
 unheld-requires c κs = search needs
@@ -18,7 +18,7 @@ returns : tie.Need-returns
 unfolding lineFrom
 returns c =
     let r = c .unheld .ensures in
-    (r .0 ∙ ap (λ (p : Phase). unheld p []) (c .before .read-phase .ensures), r .1)
+    (r .0 ∙ ap (λ (p : Phase). unheld p []) (c .before .read-bare .ensures), r .1)
 
 pub read-unlisted-spec : {M : Type 1} → statement M
-read-unlisted-spec = tie.close (tie.spec read-phase-requires unheld-requires returns)
+read-unlisted-spec = tie.close (tie.spec read-bare-requires unheld-requires returns)

@@ -2,8 +2,8 @@
 use lib.ListN.{take}
 use denote.Ref.{now}
 use borrow.Author.Needs.{needs}
-use Rattle.record.specs.Changes.{current, inPhase, withChildren}
-use Rattle.table.proofs.Within.{changed-at, lent-size, lent-sound}
+use Rattle.record.specs.Changes.{withChildren}
+use Rattle.table.proofs.Within.{goes-at, lent-size, lent-sound}
 use Rattle.table.proofs.keep_tunnels_at.Statement.{statement}
 use Rattle.table.proofs.keep_tunnels_at.Tie as tie
 
@@ -35,7 +35,7 @@ returns c =
     let a = c .before .before .before .before .before .args in
     let used = c .before .before .before .before .before .pre in
     let put = c .before .before .keep-tunnels in
-    changed-at (now (a .table)) (a .i) (used .0) (λ x. withChildren (inPhase (current (a .time) x) (a .phase)) (take (a .n) (a .list))) _ (put .ensures) (put .kept .0)
+    goes-at (now (a .table)) (a .i) (used .0) (a .time) (a .s) (λ x. withChildren x (take (a .n) (a .list))) _ (put .ensures) (put .kept .0)
 
 pub keep-tunnels-at-spec : {M : Type 1} → statement M
 keep-tunnels-at-spec =

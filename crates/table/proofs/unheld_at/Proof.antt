@@ -3,6 +3,7 @@ use Prim.Native.Nat.{ℕ}
 use mathlib.Core.List.{List}
 use mathlib.Core.Path.{ap, _∙_}
 use borrow.Author.Needs.{needs}
+use Rattle.standing.specs.Standing.{bare}
 use Rattle.record.specs.Changes.{unheld}
 use Rattle.record.specs.Octets.{lineFrom}
 use Rattle.table.specs.Table.{slot}
@@ -26,7 +27,7 @@ returns : tie.Need-returns
 unfolding slot
 returns c =
     let r = c .read-unheld .ensures in
-    (r .0 ∙ ap (λ (s : List ℕ). unheld (lineFrom s .phase) (lineFrom s .children)) (c .before .part .ensures .0), r .1)
+    (r .0 ∙ ap (λ (s : List ℕ). unheld (bare (lineFrom s .phase)) (lineFrom s .children)) (c .before .part .ensures .0), r .1)
 
 pub unheld-at-spec : {M : Type 1} → statement M
 unheld-at-spec = tie.close (tie.spec mul-part part-requires read-unheld-requires returns)

@@ -2,11 +2,11 @@
 use mathlib.Core.Path.{refl}
 use borrow.Author.Needs.{needs}
 use Rattle.octets.specs.Part.{zeros}
+use Rattle.record.specs.Changes.{inForce, withHolds}
 use Rattle.rules.specs.Answer.{eventRoom, roomOf}
 use Rattle.rules.specs.Call.{address}
 use Rattle.rules.specs.Refusals.{isShort, leastEventRoom, leastRoom}
-use Rattle.step.proofs.Views.{kindOf, selected-alone}
-use Rattle.calls.proofs.Timed.{moved, turned-away}
+use Rattle.calls.proofs.Timed.{addressed, turned-away}
 use Rattle.calls.proofs.selecting.address.Statement.{statement}
 use Rattle.calls.proofs.selecting.address.Tie as tie
 
@@ -20,32 +20,38 @@ returns : tie.Need-returns
 unfolding isShort roomOf leastRoom leastEventRoom eventRoom zeros
 returns c = turned-away _ _ _ (address _) _ _ _ refl (c .before .before .before .enter .ensures) (c .before .if1 .taken) _ _ _ refl refl refl
 
-childless-at-requires : tie.Need-childless-at-requires
-childless-at-requires c κs = c .before .before .before .enter .ensures .passes (c .before .if1 .left) .stands .used
+unlisted-at-requires : tie.Need-unlisted-at-requires
+unlisted-at-requires c κs = c .before .before .before .enter .ensures .passes (c .before .if1 .left) .stands .used
 
-address-answer-requires : tie.Need-address-answer-requires
-address-answer-requires c κs = c .childless-at .ensures .1
+held-at-requires : tie.Need-held-at-requires
+held-at-requires c κs =
+    let tested = c .before .before .before in
+    tested .before .before .enter .ensures .passes (tested .if1 .left) .stands .used
+
+answered-requires : tie.Need-answered-requires
+answered-requires c κs = search needs
 
 move-of-requires : tie.Need-move-of-requires
 move-of-requires c κs = search needs
 
 settle-requires : tie.Need-settle-requires
 settle-requires c κs =
-    let tested = c .before .before .before .before .before .before in
+    let tested = c .before .before .before .before .before .before .before .before in
     tested .before .before .enter .ensures .passes (tested .if1 .left) .stands
 
 same-length-2 : tie.Need-same-length-2
 same-length-2 c = search needs
 
 returns-2 : tie.Need-returns-2
-unfolding isShort roomOf leastRoom leastEventRoom eventRoom zeros kindOf
+unfolding isShort roomOf leastRoom leastEventRoom eventRoom inForce withHolds
 returns-2 c =
     let settle = c .before .before .settle in
     let step = c .before .before .before .before .before .before in
-    let tested = step .before .before .before in
+    let read = step .before .before .before in
+    let tested = read .before .before in
     let passes = tested .before .before .enter .ensures .passes (tested .if1 .left) in
-    moved _ _ _ (address _) _ _ _ refl passes (selected-alone (address _) _ _ _ _ refl) (step .before .childless-at .ensures .0) (step .address-answer .result) _ _ (step .address-answer .ensures .0)
-    (c .before .before .before .before .move-of .ensures) _ _ _ (settle .ensures .0) (settle .ensures .1 .0) (settle .ensures .1 .1)
+    addressed _ _ _ _ _ _ passes _ refl (step .answered .result) (read .unlisted-at .ensures .0) (step .answered .ensures .0 _ (step .before .held-at .ensures)) (c .before .before .before .before .move-of .ensures)
+    _ _ _ (settle .ensures .0) (settle .ensures .1 .0) (settle .ensures .1 .1)
 
 pub address-spec : {M : Type 1} → statement M
 address-spec =
@@ -54,8 +60,9 @@ address-spec =
     enter-requires
     same-length
     returns
-    childless-at-requires
-    address-answer-requires
+    unlisted-at-requires
+    held-at-requires
+    answered-requires
     move-of-requires
     settle-requires
     same-length-2

@@ -2,13 +2,11 @@
 use mathlib.Core.Path.{refl}
 use borrow.Author.Needs.{needs}
 use Rattle.octets.specs.Part.{zeros}
-use Rattle.record.specs.Changes.{inPhase, unheld}
 use Rattle.rules.specs.Answer.{eventRoom, roomOf}
 use Rattle.rules.specs.Call.{eap}
 use Rattle.rules.specs.Refusals.{isShort, leastEventRoom, leastRoom}
-use Rattle.rules.specs.View.{fresh}
-use Rattle.step.proofs.Views.{by-phase, kindOf}
-use Rattle.calls.proofs.Timed.{moved-named, turned-away-named}
+use Rattle.step.proofs.Views.{kindOf}
+use Rattle.calls.proofs.Timed.{stood-named, turned-away-named}
 use Rattle.calls.proofs.signalling.eap.Statement.{statement}
 use Rattle.calls.proofs.signalling.eap.Tie as tie
 
@@ -28,11 +26,11 @@ unlisted-at-requires c κs = c .before .before .before .enter .ensures .passes (
 eap-packet-requires : tie.Need-eap-packet-requires
 eap-packet-requires c κs = c .unlisted-at .ensures .1
 
-move-of-requires : tie.Need-move-of-requires
-move-of-requires c κs = search needs
+went-of-requires : tie.Need-went-of-requires
+went-of-requires c κs = search needs
 
-settle-requires : tie.Need-settle-requires
-settle-requires c κs =
+settle-standing-requires : tie.Need-settle-standing-requires
+settle-standing-requires c κs =
     let tested = c .before .before .before .before .before .before in
     tested .before .before .enter .ensures .passes (tested .if1 .left) .stands
 
@@ -40,14 +38,14 @@ same-length-2 : tie.Need-same-length-2
 same-length-2 c = search needs
 
 returns-2 : tie.Need-returns-2
-unfolding isShort roomOf leastRoom leastEventRoom eventRoom zeros kindOf fresh inPhase unheld
+unfolding isShort roomOf leastRoom leastEventRoom eventRoom zeros kindOf
 returns-2 c =
-    let settle = c .before .before .settle in
+    let settle = c .before .before .settle-standing in
     let step = c .before .before .before .before .before .before in
     let tested = step .before .before .before in
     let passes = tested .before .before .enter .ensures .passes (tested .if1 .left) in
-    moved-named _ _ _ (eap _) _ _ _ refl _ _ _ passes (by-phase (eap _) _ _ _ _ refl) (step .before .unlisted-at .ensures .0) (step .eap-packet .result) _ (step .eap-packet .ensures .0) (step .eap-packet .ensures .1 .0)
-    (c .before .before .before .before .move-of .ensures) _ _ _ (settle .ensures .0) (settle .ensures .1 .0) (settle .ensures .1 .1)
+    stood-named _ _ _ (eap _) _ _ _ refl _ _ _ refl passes (step .eap-packet .result) _ (step .before .unlisted-at .ensures .0) (step .eap-packet .ensures .0) (step .eap-packet .ensures .1 .0)
+    (c .before .before .before .before .went-of .ensures) _ _ _ (settle .ensures .0) (settle .ensures .1 .0) (settle .ensures .1 .1)
 
 pub eap-spec : {M : Type 1} → statement M
 eap-spec =
@@ -58,7 +56,7 @@ eap-spec =
     returns
     unlisted-at-requires
     eap-packet-requires
-    move-of-requires
-    settle-requires
+    went-of-requires
+    settle-standing-requires
     same-length-2
     returns-2)

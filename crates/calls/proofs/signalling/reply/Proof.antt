@@ -2,13 +2,11 @@
 use mathlib.Core.Path.{refl}
 use borrow.Author.Needs.{needs}
 use borrow.Author.Tests.{ltb-false}
-use Rattle.record.specs.Changes.{inPhase, unheld}
 use Rattle.rules.specs.Answer.{eventRoom, roomOf}
 use Rattle.rules.specs.Call.{reply}
 use Rattle.rules.specs.Refusals.{isShort, leastEventRoom, leastRoom}
-use Rattle.rules.specs.View.{fresh}
-use Rattle.step.proofs.Views.{by-phase, kindOf}
-use Rattle.calls.proofs.Timed.{moved, turned-away}
+use Rattle.step.proofs.Views.{kindOf}
+use Rattle.calls.proofs.Timed.{stood, turned-away}
 use Rattle.calls.proofs.signalling.reply.Statement.{statement}
 use Rattle.calls.proofs.signalling.reply.Tie as tie
 
@@ -39,11 +37,11 @@ reply-requires c κs =
     let first = c .before .before .before in
     (c .before .unlisted-at .ensures .1, ltb-false _ _ (first .before .before .enter .ensures .passes (first .if1 .left) .buffer-fits))
 
-move-of-requires : tie.Need-move-of-requires
-move-of-requires c κs = search needs
+went-of-requires : tie.Need-went-of-requires
+went-of-requires c κs = search needs
 
-settle-requires : tie.Need-settle-requires
-settle-requires c κs =
+settle-standing-requires : tie.Need-settle-standing-requires
+settle-standing-requires c κs =
     let tested = c .before .before .before .before .before .before .before .before .before in
     tested .before .before .enter .ensures .passes (tested .if1 .left) .stands
 
@@ -54,14 +52,14 @@ same-length-4 : tie.Need-same-length-4
 same-length-4 c = search needs
 
 returns-2 : tie.Need-returns-2
-unfolding isShort roomOf leastRoom leastEventRoom eventRoom kindOf fresh inPhase unheld
+unfolding isShort roomOf leastRoom leastEventRoom eventRoom kindOf
 returns-2 c =
-    let settle = c .before .before .settle in
+    let settle = c .before .before .settle-standing in
     let step = c .before .before .before .before .before .before .before .before in
     let tested = step .before .before .before .before in
     let passes = tested .before .before .enter .ensures .passes (tested .if1 .left) in
-    moved _ _ _ (reply _ _ _) _ _ _ refl passes (by-phase (reply _ _ _) _ _ _ _ refl) (step .before .before .unlisted-at .ensures .0) (step .reply2 .result) _ _ (step .reply2 .ensures .0)
-    (c .before .before .before .before .move-of .ensures) _ _ _ (settle .ensures .0) (settle .ensures .1 .0) (settle .ensures .1 .1)
+    stood _ _ _ (reply _ _ _) _ _ _ refl refl passes (step .reply2 .result) _ _ (step .before .before .unlisted-at .ensures .0) (step .reply2 .ensures .0)
+    (c .before .before .before .before .went-of .ensures) _ _ _ (settle .ensures .0) (settle .ensures .1 .0) (settle .ensures .1 .1)
 
 pub reply-spec : {M : Type 1} → statement M
 reply-spec =
@@ -74,8 +72,8 @@ reply-spec =
     returns
     unlisted-at-requires
     reply-requires
-    move-of-requires
-    settle-requires
+    went-of-requires
+    settle-standing-requires
     same-length-3
     same-length-4
     returns-2)

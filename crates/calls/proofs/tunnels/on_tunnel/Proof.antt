@@ -1,17 +1,10 @@
 -- `calls::tunnels::on_tunnel` meets its contract.
 use mathlib.Core.Path.{refl}
-use denote.Ref.{now}
 use borrow.Author.Needs.{needs}
 use Rattle.octets.specs.Part.{zeros}
-use Rattle.phase.specs.declared.Phase.{Phase}
-use Rattle.record.specs.Changes.{current, inPhase, unheld, withChildren}
 use Rattle.record.specs.Line.{lineOf}
-use Rattle.record.specs.Octets.{lineFrom}
-use Rattle.table.specs.Table.{slot}
-use Rattle.rules.specs.View.{fresh}
-use Rattle.step.proofs.Views.{on-tunnels, tunnelled}
 use Rattle.ike.specs.Events.{tunnelEventOf}
-use Rattle.calls.proofs.Timed.{never-short, no-buffer, settled, tunnels, turned-away}
+use Rattle.calls.proofs.Timed.{never-short, no-buffer, tunnels, turned-away, untunnelled}
 use Rattle.calls.proofs.tunnels.on_tunnel.Statement.{statement}
 use Rattle.calls.proofs.tunnels.on_tunnel.Tie as tie
 
@@ -34,8 +27,8 @@ unheld-at-requires c κs = c .before .before .before .enter .ensures .passes (c 
 tunnel-step-of-requires : tie.Need-tunnel-step-of-requires
 tunnel-step-of-requires c κs = c .unheld-at .ensures .1
 
-move-of-requires : tie.Need-move-of-requires
-move-of-requires c κs = search needs
+went-of-requires : tie.Need-went-of-requires
+went-of-requires c κs = search needs
 
 settle-tunnels-requires : tie.Need-settle-tunnels-requires
 settle-tunnels-requires c κs =
@@ -47,21 +40,16 @@ same-length-2 : tie.Need-same-length-2
 same-length-2 c = search needs
 
 returns-2 : tie.Need-returns-2
-unfolding fresh inPhase unheld withChildren lineOf
+unfolding lineOf
 returns-2 c =
     let settle = c .before .before .settle-tunnels in
-    let move = c .before .before .before .before .move-of in
     let step = c .before .before .before .before .before .before .before .before in
     let tested = step .before .before .before in
     let passes = tested .before .before .enter .ensures .passes (tested .if1 .left) in
-    let a = tested .before .before .before .before .before .args in
-    let event = a .event in
-    let found = current (a .time) (lineFrom (slot (now (a .table)) (tested .before .before .enter .result .at))) in
-    let made = step .tunnel-step-of .result in
+    let event = tested .before .before .before .before .before .args .event in
     let is = tunnels event in
-    settled _ _ _ (tunnelEventOf event) _ _ _ (never-short _ (is .0) (is .1) _ _ _) passes (tunnelled found) (λ (p : Phase). withChildren (inPhase found p) (lineOf (made .line) .children))
-    (on-tunnels (tunnelEventOf event) _ _ _ _ (is .2)) (step .before .unheld-at .ensures .0) made _ _ (step .tunnel-step-of .ensures .0) refl (move .ensures) _ _ _ (settle .ensures .0)
-    (settle .ensures .1 .0) (settle .ensures .1 .1)
+    untunnelled _ _ _ (tunnelEventOf event) _ _ _ (never-short _ (is .0) (is .1) _ _ _) (is .2) passes (step .tunnel-step-of .result) (step .before .unheld-at .ensures .0) (step .tunnel-step-of .ensures .0)
+    (c .before .before .before .before .went-of .ensures) _ _ _ (settle .ensures .0) (settle .ensures .1 .0) (settle .ensures .1 .1)
 
 pub on-tunnel-spec : {M : Type 1} → statement M
 on-tunnel-spec =
@@ -72,7 +60,7 @@ on-tunnel-spec =
     returns
     unheld-at-requires
     tunnel-step-of-requires
-    move-of-requires
+    went-of-requires
     settle-tunnels-requires
     same-length-2
     returns-2)

@@ -6,12 +6,6 @@ use Rattle.ike.proofs.event.tunnel_step_of.Tie as tie
 enum-known-event : tie.Need-enum-known-event
 enum-known-event c = search needs
 
-child-made-requires : tie.Need-child-made-requires
-child-made-requires c κs = search needs
-
-enum-known-event-2 : tie.Need-enum-known-event-2
-enum-known-event-2 c = search needs
-
 child-deleted-requires : tie.Need-child-deleted-requires
 child-deleted-requires c κs = search needs
 
@@ -22,24 +16,18 @@ ike-delete-requires : tie.Need-ike-delete-requires
 ike-delete-requires c κs = search needs
 
 returns : tie.Need-returns
-returns c = rw (c .before .before .event .given .1) (c .child-made .ensures)
+returns c = rw (c .before .before .event .given .1) (c .child-deleted .ensures)
 
 returns-2 : tie.Need-returns-2
-returns-2 c = rw (c .before .before .event2 .given .1) (c .child-deleted .ensures)
-
-returns-3 : tie.Need-returns-3
-returns-3 c = rw (c .before .enum-told .given .1) (c .ike-delete .ensures)
+returns-2 c = rw (c .before .enum-told .given .1) (c .ike-delete .ensures)
 
 pub tunnel-step-of-spec : {M : Type 1} → statement M
 tunnel-step-of-spec =
     tie.close
     (tie.spec
     enum-known-event
-    child-made-requires
-    enum-known-event-2
     child-deleted-requires
     enum-told
     ike-delete-requires
     returns
-    returns-2
-    returns-3)
+    returns-2)

@@ -1,0 +1,2 @@
+-- Where a phase stands.
+pub mod Standing
