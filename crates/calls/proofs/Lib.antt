@@ -2,4 +2,3 @@
 pub mod Lists
 pub mod Opens
 pub mod Timed
-pub mod Holdless

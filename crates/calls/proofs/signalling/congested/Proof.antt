@@ -1,18 +1,14 @@
 -- `calls::signalling::congested` meets its contract.
-use mathlib.Core.Path.{_≡_, refl, ap, _∙_}
+use mathlib.Core.Path.{refl}
 use native.Mathlib.Omega.{arith}
-use lib.ListN.{length}
 use borrow.Author.Needs.{needs}
 use Rattle.octets.specs.Part.{zeros}
 use Rattle.address.specs.declared.Address.the-variants.{V4}
 use Rattle.address.specs.declared.End.the-variants.{Never}
-use Rattle.record.specs.Changes.{unheld}
-use Rattle.record.specs.Line.{Line, lineOf}
-use Rattle.record.specs.Sound.{holdsSound}
 use Rattle.rules.specs.Answer.{eventRoom, roomOf}
 use Rattle.rules.specs.Call.{congestion}
 use Rattle.rules.specs.Refusals.{isShort, leastEventRoom, leastRoom}
-use Rattle.calls.proofs.Holdless.{holdless}
+use Rattle.lent.proofs.Unheld.{unheld-sound}
 use Rattle.calls.proofs.Timed.{one-hold, released, turned-away}
 use Rattle.calls.proofs.signalling.congested.Statement.{statement}
 use Rattle.calls.proofs.signalling.congested.Tie as tie
@@ -31,10 +27,9 @@ unlisted-at-requires : tie.Need-unlisted-at-requires
 unlisted-at-requires c κs = c .before .before .before .enter .ensures .passes (c .before .if1 .left) .stands .used
 
 congestion-requires : tie.Need-congestion-requires
-unfolding lineOf unheld
 congestion-requires c κs =
     let read = c .unlisted-at .ensures in
-    (read .1, ap (λ (x : Line). holdsSound (x .time) (x .phase) (x .holds)) (read .0) ∙ holdless _ _)
+    (read .1, unheld-sound _ _ _ (read .0))
 
 went-of-requires : tie.Need-went-of-requires
 went-of-requires c κs = search needs
