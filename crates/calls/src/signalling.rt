@@ -5,7 +5,6 @@ use frame::first_end;
 use frame::settle_hold;
 use frame::settle_standing;
 use frame::went_of;
-use ike::congestion::congestion;
 use ike::event::IkeEvent;
 use ike::event::step_of;
 use response::REPLY_ROOM;
@@ -60,7 +59,7 @@ pub fn congested(
         return entered.refusal;
     }
     let found = unlisted_at(table, entered.at);
-    let stepped = congestion(found, time, authenticated, timer);
+    let stepped = lent::congested(found, time, authenticated, timer);
     let line = stepped.line;
     let holds = line.holds;
     settle_hold(

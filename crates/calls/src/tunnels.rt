@@ -5,9 +5,8 @@ use frame::settle_child;
 use frame::settle_tunnels;
 use frame::went_of;
 use ike::event::TunnelEvent;
+use ike::event::tunnel_step_of;
 use ike::tunnel::made;
-use lent::Event;
-use lent::changed;
 use table::child_count_at;
 use table::has_spi_at;
 use table::unheld_at;
@@ -17,18 +16,7 @@ ghost use mathlib.Core.Path.{_≡_};
 ghost use Rattle.rules.specs.Call.{child-made, timed};
 ghost use Rattle.rules.specs.Run.{run};
 ghost use Rattle.ike.specs.Events.{tunnelEventOf};
-ghost use Rattle.lent.specs.Events.{eventIn};
 ghost use Rattle.calls.specs.Returned.{returned};
-
-// An event of a tunnel as one of those that come with numbers alone.
-fn among_all(event: TunnelEvent) -> Event
-    ensures { λ r. ⌜ eventIn r ≡ tunnelEventOf event ⌝ }
-{
-    match event {
-        TunnelEvent::ChildDeleted(spi) => Event::ChildDeleted(spi),
-        TunnelEvent::IkeDelete => Event::IkeDelete,
-    }
-}
 
 // A call whose event takes children of a live line away.
 pub fn on_tunnel(
@@ -47,7 +35,7 @@ pub fn on_tunnel(
         return entered.refusal;
     }
     let found = unheld_at(table, entered.at);
-    let stepped = changed(found, time, among_all(event));
+    let stepped = tunnel_step_of(found, time, event);
     let line = stepped.line;
     let children = line.children;
     settle_tunnels(

@@ -25,7 +25,7 @@ ghost use Rattle.record.specs.Line.{lineOf, InArrays};
 ghost use Rattle.record.specs.Sound.{holdsSound};
 ghost use Rattle.response.specs.Response.{replyRoom};
 ghost use Rattle.rules.specs.Answer.{numbersOf, partNamed, PartWithin};
-ghost use Rattle.rules.specs.Call.{address, country, eap, reply, start};
+ghost use Rattle.rules.specs.Call.{address, congestion, country, eap, reply, start};
 ghost use Rattle.step.specs.Step.{effect, effectIn};
 ghost use Rattle.lent.specs.Events.{eventIn, withRecord};
 
@@ -178,14 +178,28 @@ pub fn on_reply(
     }
 }
 
-// The step of an event, by a record that is lent.
-pub fn changed(line: Record, time: u64, event: Event) -> Stepped
+// Congestion on a lent record.
+pub fn on_congestion(line: &mut Record, time: u64, authenticated: u64, timer: u64) -> Told
+    requires { ⌜ InArrays (now line) × (holdsSound (now line .time) (now line .phase) (lineOf (now line) .holds) ≡ true) ⌝ }
+    ensures { λ r. ⌜ effectIn (withRecord r (now (line .exit))) [] [] ≡ effect (congestion authenticated timer) time (lineOf (now (line .entry))) ⌝ }
+    ensures { λ r. ⌜ InArrays (now (line .exit)) ⌝ }
+{
+    let stepped = congestion(*line, time, authenticated, timer);
+    *line = stepped.line;
+    Told {
+        refusal: stepped.refusal,
+        action: stepped.action,
+    }
+}
+
+// Congestion, by a record that is lent.
+pub fn congested(line: Record, time: u64, authenticated: u64, timer: u64) -> Stepped
     requires { ⌜ InArrays line × (holdsSound (line .time) (line .phase) (lineOf line .holds) ≡ true) ⌝ }
-    ensures { λ s. ⌜ effectIn s [] [] ≡ effect (eventIn event) time (lineOf line) ⌝ }
+    ensures { λ s. ⌜ effectIn s [] [] ≡ effect (congestion authenticated timer) time (lineOf line) ⌝ }
     ensures { λ s. ⌜ InArrays (s .line) ⌝ }
 {
     let mut kept = line;
-    let told = on_event(&mut kept, time, event);
+    let told = on_congestion(&mut kept, time, authenticated, timer);
     Stepped {
         refusal: told.refusal,
         line: kept,

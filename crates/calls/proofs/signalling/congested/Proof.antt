@@ -26,8 +26,8 @@ returns c = turned-away _ _ _ (congestion _ _) _ _ _ refl (c .before .before .be
 unlisted-at-requires : tie.Need-unlisted-at-requires
 unlisted-at-requires c κs = c .before .before .before .enter .ensures .passes (c .before .if1 .left) .stands .used
 
-congestion-requires : tie.Need-congestion-requires
-congestion-requires c κs =
+congested-requires : tie.Need-congested-requires
+congested-requires c κs =
     let read = c .unlisted-at .ensures in
     (read .1, unheld-sound _ _ _ (read .0))
 
@@ -42,8 +42,8 @@ settle-hold-requires c κs =
     let step = c .before .before .before .before .before .before in
     let tested = step .before .before .before in
     let passes = tested .before .before .enter .ensures .passes (tested .if1 .left) in
-    let held = step .congestion .ensures .1 .0 in
-    (passes .stands, one-hold _ _ _ _ _ _ passes _ _ (step .congestion .result) _ (step .before .unlisted-at .ensures .0) (step .congestion .ensures .0) (omega (arith, held, c .before .first-end .ensures .1)))
+    let held = step .congested .ensures .1 .0 in
+    (passes .stands, one-hold _ _ _ _ _ _ passes _ _ (step .congested .result) _ (step .before .unlisted-at .ensures .0) (step .congested .ensures .0) (omega (arith, held, c .before .first-end .ensures .1)))
 
 same-length-2 : tie.Need-same-length-2
 same-length-2 c = search needs
@@ -56,8 +56,8 @@ returns-2 c =
     let step = end .before .before .before .before .before in
     let tested = step .before .before .before in
     let passes = tested .before .before .enter .ensures .passes (tested .if1 .left) in
-    let held = step .congestion .ensures .1 .0 in
-    released _ _ _ _ _ _ passes _ _ (step .congestion .result) _ (step .before .unlisted-at .ensures .0) (step .congestion .ensures .0) (omega (arith, held, end .first-end .ensures .1)) refl
+    let held = step .congested .ensures .1 .0 in
+    released _ _ _ _ _ _ passes _ _ (step .congested .result) _ (step .before .unlisted-at .ensures .0) (step .congested .ensures .0) (omega (arith, held, end .first-end .ensures .1)) refl
     (record { address = V4 0; end = Never }) _ (end .first-end .ensures .0 _) (end .before .went-of .ensures) _ _ _ (settle .ensures .0) (settle .ensures .1 .0) (settle .ensures .1 .1)
 
 pub congested-spec : {M : Type 1} → statement M
@@ -68,7 +68,7 @@ congested-spec =
     same-length
     returns
     unlisted-at-requires
-    congestion-requires
+    congested-requires
     went-of-requires
     first-end-requires
     settle-hold-requires

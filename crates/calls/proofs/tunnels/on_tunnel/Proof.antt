@@ -1,12 +1,9 @@
 -- `calls::tunnels::on_tunnel` meets its contract.
-use mathlib.Core.Path.{refl, ap, _∙_}
+use mathlib.Core.Path.{refl}
 use borrow.Author.Needs.{needs}
 use Rattle.octets.specs.Part.{zeros}
 use Rattle.record.specs.Line.{lineOf}
-use Rattle.rules.specs.Call.{Event}
-use Rattle.step.specs.Step.{effect}
 use Rattle.ike.specs.Events.{tunnelEventOf}
-use Rattle.lent.proofs.Unheld.{unheld-sound}
 use Rattle.calls.proofs.Timed.{never-short, no-buffer, tunnels, turned-away, untunnelled}
 use Rattle.calls.proofs.tunnels.on_tunnel.Statement.{statement}
 use Rattle.calls.proofs.tunnels.on_tunnel.Tie as tie
@@ -27,11 +24,8 @@ returns c =
 unheld-at-requires : tie.Need-unheld-at-requires
 unheld-at-requires c κs = c .before .before .before .enter .ensures .passes (c .before .if1 .left) .stands .used
 
-among-all-requires : tie.Need-among-all-requires
-among-all-requires c κs = search needs
-
-changed-requires : tie.Need-changed-requires
-changed-requires c κs = (c .before .unheld-at .ensures .1, unheld-sound _ _ _ (c .before .unheld-at .ensures .0))
+tunnel-step-of-requires : tie.Need-tunnel-step-of-requires
+tunnel-step-of-requires c κs = c .unheld-at .ensures .1
 
 went-of-requires : tie.Need-went-of-requires
 went-of-requires c κs = search needs
@@ -39,8 +33,8 @@ went-of-requires c κs = search needs
 settle-tunnels-requires : tie.Need-settle-tunnels-requires
 settle-tunnels-requires c κs =
     let step = c .before .before .before .before .before in
-    let tested = step .before .before .before .before in
-    (tested .before .before .enter .ensures .passes (tested .if1 .left) .stands, step .changed .ensures .1 .1)
+    let tested = step .before .before .before in
+    (tested .before .before .enter .ensures .passes (tested .if1 .left) .stands, step .tunnel-step-of .ensures .1 .1)
 
 same-length-2 : tie.Need-same-length-2
 same-length-2 c = search needs
@@ -50,14 +44,11 @@ unfolding lineOf
 returns-2 c =
     let settle = c .before .before .settle-tunnels in
     let step = c .before .before .before .before .before .before .before .before in
-    let read = step .before .before in
-    let tested = read .before .before in
+    let tested = step .before .before .before in
     let passes = tested .before .before .enter .ensures .passes (tested .if1 .left) in
-    let a = tested .before .before .before .before .before .args in
-    let event = a .event in
+    let event = tested .before .before .before .before .before .args .event in
     let is = tunnels event in
-    untunnelled _ _ _ (tunnelEventOf event) _ _ _ (never-short _ (is .0) (is .1) _ _ _) (is .2) passes (step .changed .result) (read .unheld-at .ensures .0)
-    (step .changed .ensures .0 ∙ ap (λ (e : Event). effect e (a .time) (lineOf (read .unheld-at .result))) (step .before .among-all .ensures))
+    untunnelled _ _ _ (tunnelEventOf event) _ _ _ (never-short _ (is .0) (is .1) _ _ _) (is .2) passes (step .tunnel-step-of .result) (step .before .unheld-at .ensures .0) (step .tunnel-step-of .ensures .0)
     (c .before .before .before .before .went-of .ensures) _ _ _ (settle .ensures .0) (settle .ensures .1 .0) (settle .ensures .1 .1)
 
 pub on-tunnel-spec : {M : Type 1} → statement M
@@ -68,8 +59,7 @@ on-tunnel-spec =
     same-length
     returns
     unheld-at-requires
-    among-all-requires
-    changed-requires
+    tunnel-step-of-requires
     went-of-requires
     settle-tunnels-requires
     same-length-2
