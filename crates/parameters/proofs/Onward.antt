@@ -9,13 +9,12 @@ use lib.Dec.{leb}
 use lib.ListN.{length, drop, length-drop, drop-of-length-le}
 use lib.Seq.{drop-drop}
 use borrow.Author.Tests.{le-leb, lt-leb, leb-true, leb-false}
-use Rattle.octets.specs.Digits.{field}
 use Rattle.octets.specs.Part.{part}
-use Rattle.parameters.specs.Parameters.{size, parameterAt, wellFormed, wellFormedIn}
+use Rattle.parameters.specs.Parameters.{size, wholeAt, parameterAt, wellFormed, wellFormedIn}
 use Rattle.parameters.specs.Reading.{Reading, anParameters, anParametersIn, behind, broken, ending, finished, isWhole, parameter, placeAfter, readingOf, readings, readingsFrom}
 use Rattle.parameters.specs.declared.Parameter.{Parameter}
-use Rattle.parameters.specs.declared.Parameter.the-variants.{Whole, End, Broken}
-use Rattle.parameters.proofs.Walk.{cut, ends, is-whole, no-room, no-value, none-left, one, overruns, passes, two}
+use Rattle.parameters.specs.declared.Parameter.the-variants.{End, Broken}
+use Rattle.parameters.proofs.Walk.{cut, ends, fits, no-room, no-value, none-left, one, overruns, passes, two}
 
 -- at most n AN-parameters of a list, and then the last reading
 abbrev in-all : ℕ → List ℕ → List Reading
@@ -30,8 +29,8 @@ empty-none (suc n) = refl
 module _ (l : List ℕ) (at : ℕ) where
   -- the AN-parameters from a place on: a whole one and those behind it, none where it does not fit
   whole-first : (n : ℕ) → at + 2 + size l at ≤ length l
-      → anParametersIn (suc n) (drop at l) ≡ record { kind = field l at 1; value = part l (at + 2) (size l at) } ∷ anParametersIn n (drop (at + 2 + size l at) l)
-  unfolding anParametersIn part
+      → map parameter (anParametersIn (suc n) (drop at l)) ≡ readingOf l (wholeAt l at) ∷ map parameter (anParametersIn n (drop (at + 2 + size l at) l))
+  unfolding anParametersIn part readingOf
   whole-first n h = rw (two l at (omega arith), drop-drop (size l at) (at + 2) l, le-leb (size l at) (length (drop (at + 2) l)) (rw length-drop (omega arith)))
 
   overrun-none : (n : ℕ) → at + 2 ≤ length l → length l < at + 2 + size l at → anParametersIn (suc n) (drop at l) ≡ []
@@ -65,11 +64,10 @@ module _ (l : List ℕ) (at : ℕ) where
   module _ (other : at ≡ length l → ⊥) where
     at-whole : (n : ℕ) → at + 2 + size l at ≤ length l → readingsFrom (suc n) l (at + 2 + size l at) ≡ in-all n (drop (at + 2 + size l at) l)
         → readingsFrom (suc (suc n)) l at ≡ in-all (suc n) (drop at l)
-    unfolding readingOf isWhole behind
+    unfolding isWhole behind
     at-whole n h rest =
         rw (whole-first n h, passes l at n h)
-        (goes (suc n) (Whole (field l at 1) (at + 2) (size l at) (at + 2 + size l at)) (is-whole l at other (field l at 1) (size l at) refl refl h) refl
-        ∙ ap (λ (rs : List Reading). readingOf l (Whole (field l at 1) (at + 2) (size l at) (at + 2 + size l at)) ∷ rs) rest)
+        (goes (suc n) (wholeAt l at) (fits l at other h) refl ∙ ap (λ (rs : List Reading). readingOf l (wholeAt l at) ∷ rs) rest)
 
 -- reading on from any place gives the AN-parameters from there, and the end
 from-place : (n : ℕ) (l : List ℕ) (at : ℕ) → at ≤ length l → length l ≤ at + n → readingsFrom (suc n) l at ≡ in-all n (drop at l)

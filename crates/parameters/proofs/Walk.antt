@@ -2,7 +2,7 @@
 use Prim.Native.Nat.{ℕ, zero, suc, _+_, _≤_, _<_}
 use mathlib.Core.Bool.{Bool, true, false, cond, _&&_}
 use mathlib.Core.List.{List, [], _∷_}
-use mathlib.Core.Path.{_≡_, refl, sym, ap, ap₂, _∙_, subst}
+use mathlib.Core.Path.{_≡_, refl, sym, ap, ap₂, _∙_}
 use native.Mathlib.Nat.{zero-mul, zero-add, ne-of-lt}
 use native.Mathlib.Numerals.{add-one}
 use native.Mathlib.Omega.{arith}
@@ -13,7 +13,7 @@ use borrow.Author.Tests.{le-leb, lt-leb, leb-true, leb-false, eq-eqb, ne-eqb}
 use Rattle.octets.specs.Digits.{field, number, numberFrom}
 use Rattle.octets.specs.Part.{part}
 use Rattle.octets.proofs.Search.{and-right}
-use Rattle.parameters.specs.Parameters.{wellFormedIn, size, parameterAt}
+use Rattle.parameters.specs.Parameters.{wellFormedIn, size, wholeAt, parameterAt}
 use Rattle.parameters.specs.declared.Parameter.the-variants.{Whole, End, Broken}
 
 -- one octet says itself
@@ -66,7 +66,7 @@ module _ (l : List ℕ) (at : ℕ) (more : at < length l) where
   abbrev inside : Bool
   inside = leb (at + 2) (length l) && leb (at + 2 + size l at) (length l)
 
-  reading : parameterAt l at ≡ cond inside (Whole (field l at 1) (at + 2) (size l at) (at + 2 + size l at)) Broken
+  reading : parameterAt l at ≡ cond inside (wholeAt l at) Broken
   unfolding parameterAt
   reading = rw (ne-eqb at (length l) (λ e. ne-of-lt more e))
 
@@ -74,7 +74,7 @@ module _ (l : List ℕ) (at : ℕ) (more : at < length l) where
   pub whole-next : (kind start long next : ℕ) → Whole kind start long next ≡ parameterAt l at → (next ≡ at + 2 + size l at) × (at + 2 + size l at ≤ length l)
   whole-next kind start long next e = go inside refl (e ∙ reading)
     where
-      go : (t : Bool) → inside ≡ t → Whole kind start long next ≡ cond t (Whole (field l at 1) (at + 2) (size l at) (at + 2 + size l at)) Broken
+      go : (t : Bool) → inside ≡ t → Whole kind start long next ≡ cond t (wholeAt l at) Broken
           → (next ≡ at + 2 + size l at) × (at + 2 + size l at ≤ length l)
       go true i q = (cc, leb-true _ _ (and-right (leb (at + 2) (length l)) (leb (at + 2 + size l at) (length l)) i))
       go false i q = let z : _≡_ {A = ℕ} 0 1 = cc in omega arith
@@ -84,7 +84,7 @@ module _ (l : List ℕ) (at : ℕ) (more : at < length l) where
   broken-fails n e = go (leb (at + 2) (length l)) refl (leb (at + 2 + size l at) (length l)) refl (e ∙ reading)
     where
       go : (t : Bool) → leb (at + 2) (length l) ≡ t → (u : Bool) → leb (at + 2 + size l at) (length l) ≡ u
-          → Broken ≡ cond (t && u) (Whole (field l at 1) (at + 2) (size l at) (at + 2 + size l at)) Broken → wellFormedIn (suc n) (drop at l) ≡ false
+          → Broken ≡ cond (t && u) (wholeAt l at) Broken → wellFormedIn (suc n) (drop at l) ≡ false
       go true p true q b = cc
       go true p false q b = overruns l at n (leb-true _ _ p) (leb-false _ _ q)
       go false p u q b = cut l at n (omega (arith, leb-false))
@@ -93,7 +93,7 @@ module _ (l : List ℕ) (at : ℕ) (more : at < length l) where
   pub not-end : End ≡ parameterAt l at → ⊥
   not-end e = go inside (e ∙ reading)
     where
-      go : (t : Bool) → End ≡ cond t (Whole (field l at 1) (at + 2) (size l at) (at + 2 + size l at)) Broken → ⊥
+      go : (t : Bool) → End ≡ cond t (wholeAt l at) Broken → ⊥
       go true q = let z : _≡_ {A = ℕ} 0 1 = cc in omega arith
       go false q = let z : _≡_ {A = ℕ} 0 1 = cc in omega arith
 
@@ -112,9 +112,6 @@ module _ (l : List ℕ) (at : ℕ) where
     unfolding parameterAt
     no-value h k = simp (ne-eqb at (length l) other, le-leb (at + 2) (length l) h, lt-leb (at + 2 + size l at) (length l) k)
 
-    pub is-whole : (kind long : ℕ) → kind ≡ field l at 1 → long ≡ size l at → at + 2 + long ≤ length l
-        → Whole kind (at + 2) long (at + 2 + long) ≡ parameterAt l at
+    pub fits : at + 2 + size l at ≤ length l → wholeAt l at ≡ parameterAt l at
     unfolding parameterAt
-    is-whole kind long p q h =
-        let inside : at + 2 + size l at ≤ length l = subst (λ (k : ℕ). at + 2 + k ≤ length l) q h in
-        simp (p, q, ne-eqb at (length l) other, le-leb (at + 2) (length l) (omega arith), le-leb (at + 2 + size l at) (length l) inside)
+    fits h = simp (ne-eqb at (length l) other, le-leb (at + 2) (length l) (omega arith), le-leb (at + 2 + size l at) (length l) h)

@@ -28,8 +28,12 @@ wellFormed l = wellFormedIn (length l) l
 unfoldable pub size : List ℕ → ℕ → ℕ
 size l at = field l (at + 1) 1
 
--- the AN-parameter at a place of a block: type, where its value starts, how long that is, and the next place
+-- a whole AN-parameter at a place of a block: its type, where its value starts, how long that is, and the next place
+abbrev pub wholeAt : List ℕ → ℕ → Parameter
+wholeAt l at = Whole (field l at 1) (at + 2) (size l at) (at + 2 + size l at)
+
+-- what stands at a place of a block: a whole AN-parameter, the end, or a broken one where it runs past the end or the place is past it
 unfoldable pub parameterAt : List ℕ → ℕ → Parameter
 parameterAt l at =
     cond (eqb at (length l)) End
-    (cond (leb (at + 2) (length l) && leb (at + 2 + size l at) (length l)) (Whole (field l at 1) (at + 2) (size l at) (at + 2 + size l at)) Broken)
+    (cond (leb (at + 2) (length l) && leb (at + 2 + size l at) (length l)) (wholeAt l at) Broken)

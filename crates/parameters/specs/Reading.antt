@@ -1,4 +1,5 @@
 -- Reading the AN-parameters of a block one after another, from its start.
+-- A reader keeps hold of the block of AN-parameters of a packet, and places count from the block's start.
 use Prim.Native.Nat.{ℕ, zero, suc, _+_}
 use mathlib.Core.Bool.{Bool, true, false, cond}
 use mathlib.Core.List.{List, [], _∷_}
@@ -13,6 +14,10 @@ use Rattle.parameters.specs.declared.Parameter.the-variants.{Whole, End,
 pub record AnParameter : Type 0 where
   pub kind : ℕ
   pub value : List ℕ
+
+-- an AN-parameter as it is written: its type, how many octets its value has, and its value
+unfoldable pub parameterOctets : AnParameter → List ℕ
+parameterOctets p = p .kind ∷ length (p .value) ∷ p .value
 
 -- the whole AN-parameters that follow one another from the start of a list, at most n
 unfoldable pub anParametersIn : ℕ → List ℕ → List AnParameter

@@ -1,12 +1,12 @@
 -- `parameters::parameter_at` meets its contract: the tests that lead to each return pick the case.
-use Prim.Native.Nat.{ℕ, _+_, _<_}
+use Prim.Native.Nat.{ℕ, _+_, _<_, _≤_}
 use mathlib.Core.Path.{subst}
 use native.Mathlib.Omega.{arith}
 use lib.ListN.{length}
 use denote.Ref.{now}
 use borrow.Author.Needs.{needs}
 use Rattle.parameters.specs.Parameters.{size}
-use Rattle.parameters.proofs.Walk.{ends, no-room, no-value, is-whole}
+use Rattle.parameters.proofs.Walk.{ends, no-room, no-value, fits}
 use Rattle.parameters.proofs.parameter_at.Statement.{statement}
 use Rattle.parameters.proofs.parameter_at.Tie as tie
 
@@ -46,7 +46,13 @@ add-t7 c = search needs
 
 returns-5 : tie.Need-returns-5
 unfolding size
-returns-5 c = is-whole _ _ (c .before .before .before .before .before .if1 .left) _ _ (c .get2 .ensures .0) (c .before .before .get .ensures .0) (omega arith)
+returns-5 c =
+    let a = c .before .before .before .before .before .before .before .args in
+    let kind = c .get2 .ensures .0 in
+    let long = c .before .before .get .ensures .0 in
+    let within : a .at + 2 + c .before .before .get .result ≤ length (now (a .parameters)) = omega arith in
+    let whole = fits _ _ (c .before .before .before .before .before .if1 .left) (subst (λ (k : ℕ). a .at + 2 + k ≤ length (now (a .parameters))) long within) in
+    cc
 
 pub parameter-at-spec : {M : Type 1} → statement M
 parameter-at-spec =
