@@ -155,13 +155,23 @@ forms =
           ∷ now (eap (0x01 ∷ 7 ∷ 0 ∷ 14 ∷ 0xFE ∷ 0x00 ∷ 0x28 ∷ 0xAF ∷ 0 ∷ 0 ∷ 0 ∷ 4 ∷ 1 ∷ 0 ∷ []))
           ∷ now (eap (0x01 ∷ 7 ∷ 0 ∷ 14 ∷ 0xFE ∷ 0x00 ∷ 0x28 ∷ 0xAF ∷ 1 ∷ 0 ∷ 0 ∷ 3 ∷ 1 ∷ 0 ∷ []))
           -- Start without its spare octet
-          ∷ now (eap (0x01 ∷ 7 ∷ 0 ∷ 13 ∷ 0xFE ∷ 0x00 ∷ 0x28 ∷ 0xAF ∷ 0 ∷ 0 ∷ 0 ∷ 3 ∷ 1 ∷ [])) ∷ [];
-      says = replicate 17 (declined 9);
+          ∷ now (eap (0x01 ∷ 7 ∷ 0 ∷ 13 ∷ 0xFE ∷ 0x00 ∷ 0x28 ∷ 0xAF ∷ 0 ∷ 0 ∷ 0 ∷ 3 ∷ 1 ∷ []))
+          -- a response with message 1, a request with message 4, and a length field above the lent length
+          ∷ packet 2 14 254 0xAF 1 0 [] ∷ packet 1 14 254 0xAF 4 0 [] ∷ packet 1 15 254 0xAF 1 0 [] ∷ [];
+      says = replicate 20 (declined 9);
     }
     -- NAS that is empty or runs past the end is 9
     ∷ record {
       before = toAnswered;
       calls = packet 1 16 254 0xAF 2 0 (0 ∷ 0 ∷ []) ∷ packet 1 17 254 0xAF 2 0 (0 ∷ 2 ∷ 0x7E ∷ []) ∷ packet 1 14 254 0xAF 2 0 [] ∷ [];
+      says = replicate 3 (declined 9);
+    }
+    -- a response with message 2 that goes on with NAS alone, and a length field above or below the lent length, are 9 here too
+    ∷ record {
+      before = toAnswered;
+      calls =
+          packet 2 17 254 0xAF 2 0 (0 ∷ 1 ∷ 0x7E ∷ []) ∷ packet 1 18 254 0xAF 2 0 (0 ∷ 1 ∷ 0x7E ∷ []) ∷ packet 1 16 254 0xAF 2 0 (0 ∷ 1 ∷ 0x7E ∷ [])
+          ∷ [];
       says = replicate 3 (declined 9);
     }
     -- NAS has at most 2,048 octets, longer is 9

@@ -6,15 +6,15 @@ use mathlib.Core.Path.{_≡_, refl}
 use Rattle.octets.specs.Part.{zeros}
 use Rattle.address.specs.declared.Address.the-variants.{V4, V6}
 use Rattle.address.specs.declared.End.the-variants.{At, Never}
-use Rattle.children.specs.Children.{childOctets, childrenFrom, childrenOctets, childrenWritten, spisDiffer}
+use Rattle.children.specs.Children.{childFrom, childIn, childOctets, childrenFrom, childrenOctets, childrenWritten, spisDiffer}
 use Rattle.eap.specs.Packet.{packetNumbers, readPacket}
-use Rattle.holds.specs.Holds.{different, endNumber, holdOctets, holdsFrom, holdsOctets, holdsWritten}
+use Rattle.holds.specs.Holds.{different, endNumber, endOf, hasAddress, holdFrom, holdIn, holdOctets, holdsFrom, holdsOctets, holdsWritten}
 use Rattle.network.specs.declared.MaybePlmn.the-variants.{Is}
 use Rattle.parameters.specs.Parameters.{parameterAt, size}
 use Rattle.parameters.specs.declared.Parameter.{Parameter}
 use Rattle.parameters.specs.declared.Parameter.the-variants.{Whole, End, Broken}
-use Rattle.phase.specs.Facts.{factsOctets, placeOctets, registeredOctets}
-use Rattle.phase.specs.Phase.{askingOctets, havingOctets, phaseFits, phaseFrom, phaseOctets, phaseWritten, turnOctets}
+use Rattle.phase.specs.Facts.{factsFit, factsFrom, factsOctets, factsWritten, placeFits, placeFrom, placeOctets, placeWritten, registeredFits, registeredFrom, registeredOctets, registeredWritten}
+use Rattle.phase.specs.Phase.{askingOctets, havingFrom, havingOctets, phaseFits, phaseFrom, phaseOctets, phaseWritten, turnOctets}
 use Rattle.phase.specs.declared.Phase.the-variants.{Country, Eap, Live}
 use Rattle.phase.specs.declared.Turn.the-variants.{Owed}
 use Rattle.place.specs.declared.Place.the-variants.{Abroad}
@@ -22,6 +22,7 @@ use Rattle.record.specs.Line.{Line}
 use Rattle.record.specs.Octets.{lineFrom, recordOctets}
 use Rattle.record.specs.Sound.{childrenSound, chosenFree, holdsSound, inRange, isRecord, lineSound, lineWritten}
 use Rattle.response.specs.Response.{outOfRange, writeRefusal}
+use Rattle.table.specs.Table.{hasPair, isTable, lacksPair, pairAt, pairOnce, slot, slotSound}
 use Rattle.rules.specs.Cases.{firstReply, nas, nasPacket, startPacket, success}
 use Rattle.rules.specs.Computed.{evaluated, slotsAfter}
 
@@ -72,8 +73,16 @@ parameterNumbers Broken = 2 ∷ []
 unfoldable pub judged : List ℕ → List ℕ
 judged l = cond (isRecord l) 1 0 ∷ []
 
+-- 1 where octets are a free or a sound record
+unfoldable pub judgedSlot : List ℕ → List ℕ
+judgedSlot l = cond (slotSound l 0) 1 0 ∷ []
+
+-- 1 where octets are a sound table
+unfoldable pub judgedTable : List ℕ → List ℕ
+judgedTable l = cond (isTable l) 1 0 ∷ []
+
 unfoldable pub layouts : List Layout
-unfolding alive firstReply entry4 inEap judged nas nasPacket parameterNumbers entry6 startPacket success waiting
+unfolding alive firstReply entry4 inEap judged judgedSlot judgedTable nas nasPacket parameterNumbers entry6 startPacket success waiting
 layouts =
     -- a record: pair, time, phase with its data, count of holds, count of children, holds, children
     record {
@@ -94,6 +103,36 @@ layouts =
     -- a pair is 1 to 64
     ∷ record { gives = judged (64 ∷ zeros 242); says = 1 ∷ [] }
     ∷ record { gives = judged (65 ∷ zeros 242); says = 0 ∷ [] }
+    -- unused places are zero: those of an idle line's phase, holds and children
+    ∷ record { gives = judged (1 ∷ zeros 5 ++ 1 ∷ zeros 236); says = 0 ∷ [] }
+    ∷ record { gives = judged (1 ∷ zeros 26 ++ 1 ∷ zeros 215); says = 0 ∷ [] }
+    ∷ record { gives = judged (1 ∷ zeros 241 ++ 1 ∷ []); says = 0 ∷ [] }
+    -- those behind the last of some holds or children
+    ∷ record { gives = judged (1 ∷ zeros 24 ++ 1 ∷ 0 ∷ entry4 ++ zeros 199); says = 1 ∷ [] }
+    ∷ record { gives = judged (1 ∷ zeros 24 ++ 1 ∷ 0 ∷ entry4 ++ zeros 5 ++ 1 ∷ zeros 193); says = 0 ∷ [] }
+    ∷ record { gives = judged (1 ∷ zeros 4 ++ 8 ∷ entry4 ++ 0 ∷ 0 ∷ 0 ∷ 1 ∷ zeros 176 ++ 0 ∷ 0 ∷ 1 ∷ 0 ∷ 5 ∷ zeros 35); says = 1 ∷ [] }
+    ∷ record { gives = judged (1 ∷ zeros 4 ++ 8 ∷ entry4 ++ 0 ∷ 0 ∷ 0 ∷ 1 ∷ zeros 176 ++ 0 ∷ 0 ∷ 1 ∷ 0 ∷ 5 ∷ zeros 34 ++ 1 ∷ []); says = 0 ∷ [] }
+    -- those behind the place facts, of a missing visited MCC and of a missing registered PLMN
+    ∷ record { gives = judged (1 ∷ zeros 4 ++ 2 ∷ 1 ∷ zeros 7 ++ 4 ∷ zeros 228); says = 1 ∷ [] }
+    ∷ record { gives = judged (1 ∷ zeros 4 ++ 2 ∷ 1 ∷ zeros 7 ++ 4 ∷ 1 ∷ zeros 227); says = 0 ∷ [] }
+    ∷ record { gives = judged (1 ∷ zeros 4 ++ 2 ∷ 1 ∷ 0 ∷ 1 ∷ zeros 5 ++ 4 ∷ zeros 228); says = 0 ∷ [] }
+    ∷ record { gives = judged (1 ∷ zeros 4 ++ 2 ∷ 1 ∷ zeros 6 ++ 1 ∷ 4 ∷ zeros 228); says = 0 ∷ [] }
+    -- those behind the chosen address, and behind the four octets of version 4
+    ∷ record { gives = judged (1 ∷ zeros 4 ++ 3 ∷ entry4 ++ zeros 220); says = 1 ∷ [] }
+    ∷ record { gives = judged (1 ∷ zeros 4 ++ 3 ∷ entry4 ++ 0 ∷ 1 ∷ zeros 218); says = 0 ∷ [] }
+    ∷ record { gives = judged (1 ∷ zeros 4 ++ 3 ∷ 4 ∷ 0xC0 ∷ 0x00 ∷ 0x02 ∷ 0x07 ∷ zeros 11 ++ 1 ∷ zeros 220); says = 0 ∷ [] }
+    -- and all of a free record's
+    ∷ record { gives = judgedSlot (zeros 243); says = 1 ∷ [] }
+    ∷ record { gives = judgedSlot (1 ∷ zeros 242); says = 1 ∷ [] }
+    ∷ record { gives = judgedSlot (0 ∷ 1 ∷ zeros 241); says = 0 ∷ [] }
+    ∷ record { gives = judgedSlot (zeros 242 ++ 1 ∷ []); says = 0 ∷ [] }
+    -- a table has 32 records, each free or sound, and no pair twice
+    ∷ record { gives = judgedTable (zeros 7776); says = 1 ∷ [] }
+    ∷ record { gives = judgedTable (zeros 7533); says = 0 ∷ [] }
+    ∷ record { gives = judgedTable (zeros 7777); says = 0 ∷ [] }
+    ∷ record { gives = judgedTable (zeros 7775 ++ 1 ∷ []); says = 0 ∷ [] }
+    ∷ record { gives = judgedTable (zeros 7290 ++ 1 ∷ zeros 242 ++ 2 ∷ zeros 242); says = 1 ∷ [] }
+    ∷ record { gives = judgedTable (zeros 7290 ++ 1 ∷ zeros 242 ++ 1 ∷ zeros 242); says = 0 ∷ [] }
     -- a packet in six numbers, with spare and extensions ignored
     ∷ record { gives = packetNumbers (readPacket (startPacket 7)); says = 1 ∷ 7 ∷ zeros 4 }
     ∷ record { gives = packetNumbers (readPacket (nasPacket 8)); says = 2 ∷ 8 ∷ 0 ∷ 0 ∷ 16 ∷ 2 ∷ [] }
@@ -122,10 +161,11 @@ layouts =
     ∷ []
 
 unfoldable pub layoutGot : Layout → List ℕ
-unfolding askingOctets childOctets childrenFrom childrenOctets childrenSound childrenWritten chosenFree different endNumber evaluated factsOctets
-    havingOctets holdOctets holdsFrom holdsOctets holdsSound holdsWritten inRange isRecord lineFrom lineSound lineWritten outOfRange packetNumbers
-    parameterAt phaseFits phaseFrom phaseOctets phaseWritten placeOctets recordOctets registeredOctets size slotsAfter spisDiffer turnOctets
-    writeRefusal
+unfolding askingOctets childFrom childIn childOctets childrenFrom childrenOctets childrenSound childrenWritten chosenFree different endNumber endOf
+    evaluated factsFit factsFrom factsOctets factsWritten hasAddress hasPair havingFrom havingOctets holdFrom holdIn holdOctets holdsFrom
+    holdsOctets holdsSound holdsWritten inRange isRecord isTable lacksPair lineFrom lineSound lineWritten outOfRange packetNumbers pairAt
+    pairOnce parameterAt phaseFits phaseFrom phaseOctets phaseWritten placeFits placeFrom placeOctets placeWritten recordOctets registeredFits
+    registeredFrom registeredOctets registeredWritten size slot slotSound slotsAfter spisDiffer turnOctets writeRefusal
 layoutGot e = evaluated (e .gives)
 
 unfoldable pub layoutSaid : Layout → List ℕ

@@ -9,7 +9,7 @@ use Rattle.rules.specs.Answer.{numbersOf, twelve}
 use Rattle.rules.specs.declared.Action.{Action}
 use Rattle.rules.specs.declared.Action.the-variants as Action
 use Rattle.rules.specs.Call.{Event, start, begin, init, eap, reply, final, error, congestion, give-up, child-made, child-deleted, ike-delete, Call, opening, closing, listing, timed}
-use Rattle.rules.specs.Cases.{acts, atHome, atHome6, declined, done, firstReply, lists, nas, nasPacket, node, node6, now, own, parameters, shown, startPacket, success, toAnswered, toAuth, toChosen, toCountry, toFirst, toIdle, toInit, toLive, toName, toOwed, toSure, writes, laterReply}
+use Rattle.rules.specs.Cases.{acts, atHome, atHome6, declined, done, firstReply, lists, nas, nasPacket, node, node6, nodeAt, now, own, parameters, plain, shown, startPacket, success, toAnswered, toAuth, toChosen, toCountry, toFirst, toIdle, toInit, toLive, toName, toOwed, toSure, writes, laterReply}
 use Rattle.rules.specs.Computed.{Example, got, said}
 
 -- a line stands as the listing shows it
@@ -43,7 +43,7 @@ moved tenant line (listing a room) = listing tenant room
 moved tenant line (timed a b time e) = timed tenant line time e
 
 unfoldable pub lives : List Example
-unfolding acts atHome atHome6 declined done ending firstReply laterReply lists moved nas nasPacket node node6 now own parameters shown standing
+unfolding acts atHome atHome6 declined done ending firstReply laterReply lists moved nas nasPacket node node6 nodeAt now own parameters plain shown standing
     startPacket success toAnswered toAuth toChild toChildren toChosen toCountry toFirst toIdle toInit toLive toName toOwed toSure writes
 lives =
     -- from start to live with two children: each event is accepted in its phase, with its action
@@ -105,6 +105,10 @@ lives =
     }
     -- an address of version 6 has 32 digits
     ∷ standing (toIdle ++ now (start atHome6 node6 64) ∷ []) "line|0|chosen|20010db8000000000000000000000001|0"
+    -- an address has all its digits, zeros before the others too: 10.0.0.1 and ::1
+    ∷ standing (toIdle ++ now (start atHome (nodeAt 0x0a000001) 64) ∷ []) "line|0|chosen|0a000001|0"
+    ∷ standing (toIdle ++ now (start atHome6 (plain ++ shown "node|v6|00000000000000000000000000000001") 64) ∷ [])
+    "line|0|chosen|00000000000000000000000000000001|0"
     -- the phase after each event, with the chosen address from the choice on
     ∷ standing toIdle "line|0|idle|-|0"
     ∷ standing toCountry "line|0|country|-|0"

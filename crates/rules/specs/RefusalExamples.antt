@@ -59,6 +59,12 @@ lowest =
       calls = now (reply parameters nas 3089) ∷ now (reply parameters nas 3090) ∷ [];
       says = declines 3089 3 ∷ writes 3090 (Action.SendResponse 22) [] firstReply ∷ [];
     }
+    -- the octets of a longer reply buffer past the written part are zeros up to its end, and all of them where the call is refused
+    ∷ record {
+      before = toFirst;
+      calls = now (reply parameters [] 3100) ∷ now (reply parameters nas 3100) ∷ [];
+      says = declines 3100 8 ∷ writes 3100 (Action.SendResponse 22) [] firstReply ∷ [];
+    }
     -- 4: open, and the pair is open already; 5: the pair isn't open
     ∷ record {
       before = toIdle;

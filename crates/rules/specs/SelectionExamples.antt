@@ -100,6 +100,12 @@ selections =
     ∷ answering (abroad 901) roaming 1 [] (asks "n3iwf.5gc.mnc002.mcc901.pub.3gppnetwork.org")
     -- and not the registered PLMN
     ∷ answering (registeredTo 901 9) roaming 1 [] (asks "n3iwf.5gc.mnc002.mcc901.pub.3gppnetwork.org")
+    -- also where the call's own text has an unbarred record of it
+    ∷ record {
+      before = starts (registeredTo 901 1) plain;
+      calls = now (country 1 [] (plain ++ shown "plmn|901|01|5" ++ shown "plmn|901|02|3") 64) ∷ [];
+      says = asks "n3iwf.5gc.mnc002.mcc901.pub.3gppnetwork.org" ∷ [];
+    }
     -- priorities are compared as numbers, of one digit, two or three
     ∷ answering (abroad 901) (plain ++ shown "plmn|901|01|10" ++ shown "plmn|901|02|9") 1 [] (asks "n3iwf.5gc.mnc002.mcc901.pub.3gppnetwork.org")
     ∷ answering (abroad 901) (plain ++ shown "plmn|901|01|100" ++ shown "plmn|901|02|99") 1 [] (asks "n3iwf.5gc.mnc002.mcc901.pub.3gppnetwork.org")
@@ -111,6 +117,10 @@ selections =
     ∷ answering (abroad 901) named 1 [] (writes 64 (Action.AskText 22 13) (text "n3iwf.example") [])
     ∷ answering (abroad 901) node 1 [] (gives (Action.Chose (V4 0xc0000207) 0))
     ∷ answering (abroad6 901) node6 1 [] (gives (Action.Chose (V6 0x20010db800000000 1) 0))
+    -- a `node` address that is not permitted is stop 4 with 1 passed over, here too
+    ∷ answering (abroad6 901) node 1 [] (gives (Action.Stopped 4 1))
+    ∷ answering (abroad6 903) (node ++ shown "plmn|901|01|5") 1 [] (gives (Action.Stopped 4 1))
+    ∷ answering (abroad 901) node6 1 [] (gives (Action.Stopped 4 1))
     -- one or more: the registered PLMN if listed and not barred
     ∷ answering (registeredTo 901 9) roaming 1 (network 901 2 ++ network 901 9) (asks "n3iwf.5gc.mnc009.mcc901.pub.3gppnetwork.org")
     ∷ answering (registeredTo 901 4) roaming 1 (network 901 4 ++ network 901 1) (asks "n3iwf.5gc.mnc001.mcc901.pub.3gppnetwork.org")
