@@ -81,6 +81,9 @@ static void print_details(const scal_answer *answer, const uint8_t *slice)
         if (answer->eap_ended)
             printf(", the EAP session ended");
         break;
+    case SCAL_ACTION_ERROR:
+        printf(": %" PRIu64 "%s", answer->error, answer->eap_ended ? ", the EAP session ended" : "");
+        break;
     default:
         break;
     }

@@ -29,7 +29,7 @@ use Rattle.rules.proofs.Goes.{addressed-goes}
 use Rattle.step.specs.Step.{Effect, Gives, effect, effectIn, outcomeBy}
 use Rattle.step.specs.declared.Stepped.{Stepped}
 use Rattle.step.proofs.Steps.{turned-away}
-use Rattle.attempt.specs.Attempt.{AnsweredOn, heldBy}
+use Rattle.attempt.specs.Attempt.{answeredOn, heldBy}
 
 -- a list of addresses is no longer than it may be
 pub short : (l : List ℕ) → addressesFit l ≡ true → length l ≤ addressLength * mostEntries
@@ -54,14 +54,14 @@ module _ (l : List ℕ) (time : ℕ) (line f : Record) (hs : List Hold) (is-foun
   module _ (r : Stepped) where
     -- it is refused
     pub left-held : (n : ℕ) → refusal (refusalsOf (address l) (ltb lastTime time) (lineOf f)) ≡ suc n → Gives r (suc n) (lineOf line) Action.Nothing
-        → AnsweredOn r time hs ≡ effect (address l) time (with-held line hs)
+        → answeredOn r time hs ≡ effect (address l) time (with-held line hs)
     unfolding effect outcomeBy heldBy eventRoom padded zeros
     left-held n number g = rw (g .refusal-is, g .line-is, g .action-is, same-number, number)
 
     -- it is accepted
     pub gone-held : refusal (refusalsOf (address l) (ltb lastTime time) (lineOf f)) ≡ 0 → (p : Phase) (action : Action)
         → outcome (address l) (current time (with-held line hs)) ≡ goes (current time (with-held line hs)) p action → Gives r 0 (inPhase (lineOf f) p) action
-        → AnsweredOn r time hs ≡ effect (address l) time (with-held line hs)
+        → answeredOn r time hs ≡ effect (address l) time (with-held line hs)
     unfolding effect outcomeBy heldBy eventRoom padded zeros goes inPhase current withHolds
     gone-held number p action is g = rw (g .refusal-is, g .line-is, g .action-is, same-number, number, is, is-found)
 
@@ -78,7 +78,7 @@ accepted-moves l time x accepted = rw accepted (moved l (current time x))
 
 -- what the step s answers on the line with its own holds is what r answers on the line
 module _ (l : List ℕ) (time : ℕ) (line f : Record) (s r : Stepped) (is-found : lineOf f ≡ current time (lineOf line))
-    (told : AnsweredOn s time (lineOf line .holds) ≡ effect (address l) time (with-held line (lineOf line .holds))) where
+    (told : answeredOn s time (lineOf line .holds) ≡ effect (address l) time (with-held line (lineOf line .holds))) where
   -- its refusal number
   number : refusal (refusalsOf (address l) (ltb lastTime time) (lineOf f)) ≡ s .refusal
   unfolding effect
@@ -101,5 +101,5 @@ module _ (l : List ℕ) (time : ℕ) (line f : Record) (s r : Stepped) (is-found
       let is-line = ap (λ (e : Effect). e .line) told in
       let moves = accepted-moves l time (lineOf line) (sym (ap (λ (e : Effect). e .refusal) told) ∙ none) in
       let line-is = ap₂ inPhase is-found (ap (λ (x : Line). x .phase) is-line) ∙ sym moves ∙ sym is-line in
-      let same : effectIn r [] [] ≡ AnsweredOn s time (lineOf line .holds) = rw (g .refusal-is, g .line-is, g .action-is, line-is, none) in
+      let same : effectIn r [] [] ≡ answeredOn s time (lineOf line .holds) = rw (g .refusal-is, g .line-is, g .action-is, line-is, none) in
       same ∙ told

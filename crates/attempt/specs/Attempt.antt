@@ -33,5 +33,5 @@ heldBy zero time hs = only (endsAfter time) hs
 heldBy (suc n) time hs = hs
 
 -- what the code's answer comes to on the line with holds
-abbrev pub AnsweredOn : Stepped → ℕ → List Hold → Effect
-AnsweredOn r time hs = record { refusal = r .refusal; line = withHolds (lineOf (r .line)) (heldBy (r .refusal) time hs); action = r .action; part = []; buffer = [] }
+abbrev pub answeredOn : Stepped → ℕ → List Hold → Effect
+answeredOn r time hs = record { refusal = r .refusal; line = withHolds (lineOf (r .line)) (heldBy (r .refusal) time hs); action = r .action; part = []; buffer = [] }

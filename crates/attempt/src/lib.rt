@@ -54,7 +54,7 @@ ghost use Rattle.rules.specs.Call.{address, country, start};
 ghost use Rattle.rules.specs.Life.{decided};
 ghost use Rattle.rules.specs.Refusals.{badNetworks};
 ghost use Rattle.step.specs.Step.{effect, effectIn};
-ghost use Rattle.attempt.specs.Attempt.{AnsweredOn, Comes, Says};
+ghost use Rattle.attempt.specs.Attempt.{answeredOn, Comes, Says};
 
 // The phase that a line goes to, and what the daemon has to do.
 pub(crate) struct Move {
@@ -198,7 +198,7 @@ pub fn country_answer(
 // The address answer, told of each address whether it is on hold: the first that is permitted is chosen.
 pub fn answered(line: Record, time: u64, addresses: &[u8], held: [bool; ENTRIES]) -> Stepped
     requires { ⌜ InArrays line ⌝ }
-    ensures { λ r. ⌜ ((hs : List Hold) → (length (now (addresses .entry)) ≤ addressLength * mostEntries → HeldAre held (now (addresses .entry)) (heldAddresses (only (endsAfter time) hs))) → AnsweredOn r time hs ≡ effect (address (now (addresses .entry))) time (withHolds (lineOf line) hs)) ⌝ }
+    ensures { λ r. ⌜ ((hs : List Hold) → (length (now (addresses .entry)) ≤ addressLength * mostEntries → HeldAre held (now (addresses .entry)) (heldAddresses (only (endsAfter time) hs))) → answeredOn r time hs ≡ effect (address (now (addresses .entry))) time (withHolds (lineOf line) hs)) ⌝ }
     ensures { λ r. ⌜ InArrays (r .line) ⌝ }
 {
     let found = current(line, time);

@@ -29,8 +29,8 @@ use Rattle.rules.proofs.Bare.{addressOr}
 use Rattle.rules.proofs.Goes.{phased}
 use Rattle.step.proofs.Views.{From, adding, answered-bare, bareOf, by-standing, child-added, congested-address, congested-bare, kindOf, move, move-continues, on-bare-tunnels, one-held, tunnel, tunnel-continues, withLine}
 use Rattle.step.specs.declared.Stepped.{Stepped}
-use Rattle.attempt.specs.Attempt.{AnsweredOn}
-use Rattle.ike.specs.Made.{MadeOn}
+use Rattle.attempt.specs.Attempt.{answeredOn}
+use Rattle.ike.specs.Made.{madeOn}
 use Rattle.ike.specs.Events.{eventOf, tunnelEventOf}
 use Rattle.ike.specs.declared.event.IkeEvent.{IkeEvent}
 use Rattle.ike.specs.declared.event.IkeEvent.the-variants as IkeEvent
@@ -164,7 +164,7 @@ module _ (tenant line time : ℕ) (short : Bool) (l : List ℕ) (r : Entered) (p
   its = lineFrom (slot l (r .at))
 
   pub added : (child : Child) → isShort (timed tenant line time (child-made (child .spi) (child .session))) ≡ short → (s : Stepped) → {z : Line} → z ≡ unheld (bare (its .phase)) []
-      → MadeOn s child (its .children) ≡ effect (child-made (child .spi) (child .session)) time (withChildren z (its .children))
+      → madeOn s child (its .children) ≡ effect (child-made (child .spi) (child .session)) time (withChildren z (its .children))
       → {w : Went} → w ≡ record { refusal = s .refusal; standing = standing (s .line .phase); action = s .action }
       → (n : ℕ) (numbers table : List ℕ) → n ≡ w .refusal → numbers ≡ numbersOf (w .action) → GoneTo r time w l table (λ x. withChildren x (x .children ++ child ∷ []))
       → returned n numbers [] [] table ≡ run (timed tenant line time (child-made (child .spi) (child .session))) l
@@ -172,16 +172,16 @@ module _ (tenant line time : ℕ) (short : Bool) (l : List ℕ) (r : Entered) (p
   added child room s read is =
       let e = child-made (child .spi) (child .session) in
       gone tenant line time e short l r room passes (adding (current time its) child) (λ x. withChildren x (x .children ++ child ∷ [])) _ (child-added time (r .pair) l its (child .spi) (child .session))
-      (tunnel-continues e time (r .pair) l its refl) (MadeOn s child (its .children)) (is ∙ ap (λ (y : Line). effect e time (withChildren y (its .children))) read) refl
+      (tunnel-continues e time (r .pair) l its refl) (madeOn s child (its .children)) (is ∙ ap (λ (y : Line). effect e time (withChildren y (its .children))) read) refl
 
   pub addressed : (list : List ℕ) → isShort (timed tenant line time (address list)) ≡ short → (s : Stepped) → {z : Line} → z ≡ unheld (bare (its .phase)) []
-      → AnsweredOn s time (its .holds) ≡ effect (address list) time (withHolds z (its .holds))
+      → answeredOn s time (its .holds) ≡ effect (address list) time (withHolds z (its .holds))
       → {m : Moved} → m ≡ record { refusal = s .refusal; phase = s .line .phase; action = s .action } → (n : ℕ) (numbers table : List ℕ)
       → n ≡ m .refusal → numbers ≡ numbersOf (m .action) → table ≡ storedBy (m .refusal) (r .pair) (inPhase (current time its) (m .phase)) l
       → returned n numbers [] [] table ≡ run (timed tenant line time (address list)) l
   unfolding lineOf unheld fresh inPhase withHolds
   addressed list room s read is moves n numbers table number action stored =
-      comes tenant line time (address list) short l r room passes (phased (current time its)) _ (answered-bare time (r .pair) l its list) (AnsweredOn s time (its .holds))
+      comes tenant line time (address list) short l r room passes (phased (current time its)) _ (answered-bare time (r .pair) l its list) (answeredOn s time (its .holds))
       (is ∙ ap (λ (y : Line). effect (address list) time (withHolds y (its .holds))) read) _ refl n numbers table (number ∙ ap (λ (m : Moved). m .refusal) moves)
       (action ∙ ap (λ (m : Moved). numbersOf (m .action)) moves) (stored ∙ ap (λ (m : Moved). storedBy (m .refusal) (r .pair) (inPhase (current time its) (m .phase)) l) moves)
 

@@ -43,7 +43,7 @@ pub record Enters (r : Entered) (tenant line time : ℕ) (short : Bool) (l : Lis
       → run (timed tenant line time e) l ≡ record { answer = refused (r .refusal) (timed tenant line time e); table = l }
   pub passes : r .refusal ≡ 0 → Passes r tenant line time short l
 
--- the table m stores, unless the step was refused, the line of l as a call finds it, in every phase that its phase goes on to and that stands so, changed
+-- m is the table l with the call's line replaced, unless the step was refused: the line that it finds, in the phase that its own goes on to and that stands so, changed
 abbrev pub GoneTo : Entered → ℕ → Went → List ℕ → List ℕ → (Line → Line) → Type 0
 GoneTo r time went l m f =
     let x = lineFrom (slot l (r .at)) in

@@ -144,14 +144,14 @@ pub fn settle(
     0
 }
 
-// What is left of a step's answer where only where the phase stands changes: the refusal number, where it stands, and what the daemon has to do.
+// What is left of a step's answer on a line that keeps its address or ends: the refusal number, where it stands, and what the daemon has to do.
 pub struct Went {
     pub refusal: u64,
     pub standing: Standing,
     pub action: Action,
 }
 
-// The part of a step's answer that a line whose data stay needs.
+// The part of a step's answer that `settle_standing` and the functions behind it need.
 pub fn went_of(stepped: Stepped) -> Went
     ensures { λ r. ⌜ r ≡ record { refusal = stepped .refusal; standing = standing (stepped .line .phase); action = stepped .action } ⌝ }
 {
@@ -237,7 +237,7 @@ pub fn settle_child(
     0
 }
 
-// When the first of a line's holds ends.
+// When the first of a line's holds ends; the list has all its places.
 pub fn first_end(list: [Hold; HOLDS]) -> End
     ensures { λ r. ⌜ ((d : Hold) → r ≡ getD list 0 d .end) × (length list ≡ mostHolds) ⌝ }
 {
@@ -245,7 +245,7 @@ pub fn first_end(list: [Hold; HOLDS]) -> End
     hold.end
 }
 
-// Stores the time that a step leaves of a line that has a chosen address, unless it was refused, and answers; the line is idle, and the address is held where the count is 1.
+// Stores the time that a step leaves of a line that has a chosen address, unless it was refused, and answers; the line becomes idle, and the address is held where the count is 1.
 pub fn settle_hold(
     table: &mut [u8],
     entered: Entered,

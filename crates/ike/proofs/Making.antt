@@ -16,7 +16,7 @@ use Rattle.rules.specs.Refusals.{refusalsOf}
 use Rattle.rules.specs.declared.Action.the-variants as Action
 use Rattle.step.specs.Step.{Effect, Gives, effect, effectIn, outcomeBy}
 use Rattle.step.specs.declared.Stepped.{Stepped}
-use Rattle.ike.specs.Made.{MadeOn, madeBy}
+use Rattle.ike.specs.Made.{madeOn, madeBy}
 
 -- the event of a child
 abbrev pub making : Child → Event
@@ -30,19 +30,19 @@ number-on c time x = refusal (refusalsOf (making c) (ltb lastTime time) (current
 module _ (c : Child) (time : ℕ) (line : Record) (r : Stepped) where
   -- it is refused
   pub left-made : (cs : List Child) (m : ℕ) → number-on c time (withChildren (lineOf line) cs) ≡ suc m → Gives r (suc m) (lineOf line) Action.Nothing
-      → MadeOn r c cs ≡ effect (making c) time (withChildren (lineOf line) cs)
+      → madeOn r c cs ≡ effect (making c) time (withChildren (lineOf line) cs)
   unfolding effect outcomeBy madeBy eventRoom padded zeros
   left-made cs m number g = rw (g .refusal-is, g .line-is, g .action-is, number)
 
   -- it is accepted
   pub gone-made : (cs : List Child) (f : Record) → lineOf f ≡ current time (lineOf line) → number-on c time (withChildren (lineOf line) cs) ≡ 0
-      → Gives r 0 (inPhase (lineOf f) (lineOf f .phase)) Action.Nothing → MadeOn r c cs ≡ effect (making c) time (withChildren (lineOf line) cs)
+      → Gives r 0 (inPhase (lineOf f) (lineOf f .phase)) Action.Nothing → madeOn r c cs ≡ effect (making c) time (withChildren (lineOf line) cs)
   unfolding effect outcomeBy outcome madeBy eventRoom padded zeros inPhase current withChildren
   gone-made cs f is-found number g = rw (g .refusal-is, g .line-is, g .action-is, number, is-found)
 
 -- what the step s answers on the line with its own children is what r answers on the line
 module _ (c : Child) (time : ℕ) (line : Record) (s r : Stepped)
-    (told : MadeOn s c (lineOf line .children) ≡ effect (making c) time (withChildren (lineOf line) (lineOf line .children))) where
+    (told : madeOn s c (lineOf line .children) ≡ effect (making c) time (withChildren (lineOf line) (lineOf line .children))) where
   -- it is refused
   pub sent-back : (s .refusal ≡ 0 → ⊥) → Gives r (s .refusal) (lineOf line) Action.Nothing → effectIn r [] [] ≡ effect (making c) time (lineOf line)
   unfolding effect effectIn outcomeBy eventRoom padded zeros withChildren
@@ -58,5 +58,5 @@ module _ (c : Child) (time : ℕ) (line : Record) (s r : Stepped)
       → effectIn r [] [] ≡ effect (making c) time (lineOf line)
   unfolding effectIn madeBy withChildren
   stored none cs behind g =
-      let same : effectIn r [] [] ≡ MadeOn s c (lineOf line .children) = rw (g .refusal-is, g .line-is, g .action-is, behind, none) in
+      let same : effectIn r [] [] ≡ madeOn s c (lineOf line .children) = rw (g .refusal-is, g .line-is, g .action-is, behind, none) in
       same ∙ told

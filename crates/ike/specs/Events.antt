@@ -1,4 +1,4 @@
--- The events that come with numbers alone.
+-- The events that come with numbers alone, but for congestion and a child made.
 use Rattle.rules.specs.Call.{Event, begin, child-deleted, error, final, give-up, ike-delete, init}
 use Rattle.ike.specs.declared.event.IkeEvent.{IkeEvent}
 use Rattle.ike.specs.declared.event.IkeEvent.the-variants as IkeEvent

@@ -1,3 +1,3 @@
--- The events that come with numbers alone.
+-- The events that come with numbers alone, and a child made.
 pub mod Events
 pub mod Made

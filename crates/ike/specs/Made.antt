@@ -13,5 +13,5 @@ madeBy zero c cs = cs ++ c ∷ []
 madeBy (suc n) c cs = cs
 
 -- what the code's answer comes to on the line with children
-abbrev pub MadeOn : Stepped → Child → List Child → Effect
-MadeOn r c cs = record { refusal = r .refusal; line = withChildren (lineOf (r .line)) (madeBy (r .refusal) c cs); action = r .action; part = []; buffer = [] }
+abbrev pub madeOn : Stepped → Child → List Child → Effect
+madeOn r c cs = record { refusal = r .refusal; line = withChildren (lineOf (r .line)) (madeBy (r .refusal) c cs); action = r .action; part = []; buffer = [] }

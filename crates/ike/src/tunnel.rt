@@ -26,7 +26,7 @@ ghost use Rattle.record.specs.Line.{lineOf, InArrays};
 ghost use Rattle.rules.specs.Call.{child-made, child-deleted, ike-delete};
 ghost use Rattle.rules.specs.Refusals.{isChild};
 ghost use Rattle.step.specs.Step.{effect, effectIn};
-ghost use Rattle.ike.specs.Made.{MadeOn};
+ghost use Rattle.ike.specs.Made.{madeOn};
 
 // The highest SPI.
 const MOST_SPI: u64 = 4294967295;
@@ -59,7 +59,7 @@ fn with_children(line: Record, children: [Child; CHILDREN], n: usize) -> Record
 // A child made, but for the child itself: whether its SPI is taken and how many children stand come with it.
 pub fn made(line: Record, time: u64, child: Child, taken: bool, n: usize) -> Stepped
     requires { ⌜ InArrays line ⌝ }
-    ensures { λ r. ⌜ ((cs : List Child) → taken ≡ hasSpi (child .spi) cs → n ≡ length cs → MadeOn r child cs ≡ effect (child-made (child .spi) (child .session)) time (withChildren (lineOf line) cs)) ⌝ }
+    ensures { λ r. ⌜ ((cs : List Child) → taken ≡ hasSpi (child .spi) cs → n ≡ length cs → madeOn r child cs ≡ effect (child-made (child .spi) (child .session)) time (withChildren (lineOf line) cs)) ⌝ }
     ensures { λ r. ⌜ InArrays (r .line) × (r .refusal ≡ 0 → n < mostChildren) ⌝ }
 {
     let found = current(line, time);

@@ -39,7 +39,7 @@ headText n p = text "line" ++ tab ++ decimal n ++ tab ++ text (word (stageOf p))
 unfoldable pub tailText : ℕ → List Child → List ℕ
 tailText n cs = tab ++ decimal (length cs) ++ newline ++ joined (childText n) cs
 
--- the line in the record with a number, none past the last one
+-- the line in the used record with a number, none past the last one
 unfoldable pub lineIn : List ℕ → ℕ → Option Line
 lineIn l i = cond (ltb i recordCount) (some (lineFrom (slot l i))) none
 

@@ -9,6 +9,6 @@ use Rattle.address.specs.declared.Address.{Address}
 use Rattle.addresses.specs.Addresses.{addressLength}
 use Rattle.lists.specs.Lists.{addressAt}
 
--- for each address of the list, whether it is one of those on hold
+-- for each address of a list that fits, whether it is one of those on hold
 abbrev pub HeldAre : List Bool → List ℕ → List Address → Type 0
 HeldAre held l hs = (i : ℕ) → addressLength * i + addressLength ≤ length l → getD held i false ≡ stands (addressAt l i) hs

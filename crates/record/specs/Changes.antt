@@ -44,7 +44,7 @@ withChildren x cs = record { time = x .time; phase = x .phase; holds = x .holds;
 unfoldable pub inForce : ℕ → Line → Line
 inForce time x = withHolds x (only (endsAfter time) (x .holds))
 
--- the line that a call finds is idle, and an address is held behind the others where the count is 1
+-- the line that a call finds becomes idle, and an address is held behind the others unless the count is 0
 unfoldable pub heldFor : ℕ → Address → End → ℕ → Line → Line
 heldFor time a end count x =
     let found = current time x in
@@ -58,7 +58,7 @@ unheld p cs = record { time = 0; phase = p; holds = []; children = cs }
 abbrev pub Changes : List ℕ → List ℕ → (Line → Line) → Type 0
 Changes l m f = (pair : ℕ) (x : Line) → length (x .holds) ≤ mostHolds → length (x .children) ≤ mostChildren → l ≡ recordOctets pair x → m ≡ recordOctets pair (f x)
 
--- where the octets l are those of a sound record, m are those of its line as a call finds it, in every phase that its phase goes on to and that stands so, changed
+-- m is the record l with its line replaced: the line that a call finds, in the phase that its own goes on to and that stands so, changed
 abbrev pub Goes : List ℕ → ℕ → Standing → List ℕ → (Line → Line) → Type 0
 Goes l time s m f =
     (q : Phase) → Continues (lineFrom l .phase) q → standing q ≡ s → m ≡ recordOctets (field l 0 1) (f (inPhase (current time (lineFrom l)) (restored (lineFrom l .phase) q)))

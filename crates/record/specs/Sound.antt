@@ -62,6 +62,5 @@ abbrev pub mostPairs : ℕ
 mostPairs = suc lastTenant * suc lastLine
 
 -- a record of one of the pairs
-
 unfoldable pub isRecord : List ℕ → Bool
 isRecord l = leb 1 (field l 0 1) && leb (field l 0 1) mostPairs && lineWritten l && lineSound (lineFrom l)

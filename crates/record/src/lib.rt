@@ -130,7 +130,7 @@ fn unheld(phase: Phase, children: [Child; CHILDREN], n: usize) -> Record
     }
 }
 
-// The line in a record's octets, of which only where its phase stands is known.
+// The line in a record's octets, of which only the bare phase is known.
 pub fn read_unlisted(b: &[u8]) -> Record
     requires { ⌜ recordLength ≤ length (now b) ⌝ }
     ensures { λ r. ⌜ lineOf r ≡ unheld (bare (lineFrom (now (b .entry)) .phase)) [] ⌝ }
@@ -140,7 +140,7 @@ pub fn read_unlisted(b: &[u8]) -> Record
     unheld(read_bare(b, PHASE_AT), none, 0)
 }
 
-// The line in a record's octets, of which only where its phase stands and the children are known.
+// The line in a record's octets, of which only the bare phase and the children are known.
 pub fn read_unheld(b: &[u8]) -> Record
     requires { ⌜ (recordLength ≤ length (now b)) × (field (now b) childCountPlace 1 ≤ mostChildren) ⌝ }
     ensures { λ r. ⌜ lineOf r ≡ unheld (bare (lineFrom (now (b .entry)) .phase)) (lineFrom (now (b .entry)) .children) ⌝ }
@@ -174,6 +174,7 @@ pub fn held_in(b: &[u8], time: u64, list: &[u8]) -> [bool; ENTRIES]
 {
     let n = get(b, HOLD_COUNT_AT, 1) as usize;
     let mut held = [false; ENTRIES];
+    // Most lines hold nothing, and then no address is read.
     if n == 0 {
         return held;
     }
@@ -271,6 +272,7 @@ fn add_child(b: &mut [u8], child: Child)
     ensures { λ _. ⌜ (field (now (b .entry)) childCountPlace 1 < mostChildren → Changes (now (b .entry)) (now (b .exit)) (λ x. withChildren x (x .children ++ child ∷ []))) ⌝ }
 {
     let n = get(b, CHILD_COUNT_AT, 1) as usize;
+    // The callers have room for one more, so nothing is left out here.
     if CHILDREN <= n {
         return;
     }
@@ -296,6 +298,7 @@ fn add_hold(b: &mut [u8], hold: Hold, count: usize)
         return;
     }
     let n = get(b, HOLD_COUNT_AT, 1) as usize;
+    // The callers have room for one more, so nothing is left out here.
     if HOLDS <= n {
         return;
     }
@@ -303,7 +306,7 @@ fn add_hold(b: &mut [u8], hold: Hold, count: usize)
     put(b, HOLD_COUNT_AT, 1, n as u64 + 1);
 }
 
-// Stores the time of the line in a sound record that has a chosen address; the line is idle, and the address is held behind the holds in force where the count is 1.
+// Stores the time of the line in a sound record that has a chosen address; the line becomes idle, and the address is held behind the holds in force where the count is 1.
 pub fn keep_hold(b: &mut [u8], time: u64, end: End, count: usize)
     requires { ⌜ (length (now b) ≡ recordLength) × (isRecord (now b) ≡ true) × (count ≤ 1) ⌝ }
     ensures { λ _. ⌜ ((a : Address) → chosen (lineFrom (now (b .entry)) .phase) ≡ some a → now (b .exit) ≡ recordOctets (field (now (b .entry)) 0 1) (heldFor time a end count (lineFrom (now (b .entry))))) ⌝ }

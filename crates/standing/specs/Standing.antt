@@ -1,4 +1,5 @@
--- What a phase says beside its place facts and its address, and how one phase goes on to another that keeps them.
+-- What a phase says beside its place facts and its address, and how one phase goes on to another that keeps its address.
+-- Start and the country and address answers are not told this way, since they write place facts or an address anew.
 use Prim.Native.Nat.{ℕ}
 use mathlib.Core.List.{List}
 use mathlib.Core.Option.{Option, none, some}
@@ -29,6 +30,7 @@ turned (First i) = record { stage = stageNumber Stage.eap; turn = 1; identifier 
 turned (Owed i) = record { stage = stageNumber Stage.eap; turn = 2; identifier = i }
 turned (Answered i) = record { stage = stageNumber Stage.eap; turn = 3; identifier = i }
 
+-- where a phase stands
 unfoldable pub standing : Phase → Standing
 standing Idle = ofStage Stage.idle
 standing (Country f) = ofStage Stage.country
@@ -59,12 +61,12 @@ bare (Eap a t) = Eap nowhere t
 bare (Sure a) = Sure nowhere
 bare (Live a) = Live nowhere
 
--- a phase with an address, the chosen one where there is one
+-- a phase with the chosen address; there is one wherever a phase goes on to one with an address
 unfoldable pub placed : (Address → Phase) → Address → Option Address → Phase
 placed f b none = f b
 placed f b (some a) = f a
 
--- the phase q, with the address that p has
+-- the phase q with the address that p has; a phase with place facts is gone on to only by staying, and is p itself
 unfoldable pub restored : Phase → Phase → Phase
 restored p Idle = Idle
 restored p (Country f) = p
@@ -76,12 +78,12 @@ restored p (Eap b t) = placed (λ a. Eap a t) b (chosen p)
 restored p (Sure b) = placed Sure b (chosen p)
 restored p (Live b) = placed Live b (chosen p)
 
--- the phase p goes on to q: it ends, it stays as it is, or both have an address
+-- the phase p goes on to q: it ends, it stays as it is and is known bare, or both have an address
 pub data Continues : Phase → Phase → Type 0 where
   ends : {p : Phase} → Continues p Idle
   stays : {p : Phase} → Continues p (bare p)
   keeps : {p q : Phase} {a b : Address} → chosen p ≡ some a → chosen q ≡ some b → Continues p q
 
--- where a phase stands in the octets l, the octets m are those of every phase that it goes on to and that stands so
+-- m is l with the phase p, which stands there, written over by the one that p goes on to and that stands so
 abbrev pub Stood : List ℕ → ℕ → Standing → List ℕ → Type 0
 Stood l at s m = (p q : Phase) → Continues p q → standing q ≡ s → part l at phaseLength ≡ phaseOctets p → Wrote l at (phaseOctets (restored p q)) m

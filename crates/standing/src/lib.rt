@@ -128,7 +128,7 @@ pub fn read_bare(list: &[u8], at: usize) -> Phase
     bare_having(list, at, number)
 }
 
-// Stores where a phase stands; its data stay unless it is idle.
+// Stores where a phase stands: an idle phase is zeros, and any other keeps the data that are there.
 pub fn put_standing(list: &mut [u8], at: usize, s: Standing)
     requires { ⌜ at + phaseLength ≤ length (now list) ⌝ }
     ensures { λ _. ⌜ Stood (now (list .entry)) at s (now (list .exit)) ⌝ }

@@ -12,7 +12,7 @@ use Rattle.record.specs.Line.{Line}
 use Rattle.record.specs.Octets.{lineFrom, recordLength, recordOctets}
 use Rattle.table.specs.Table.{slot}
 
--- the table m has in the record with a number the line of l as a call finds it, in every phase that its phase goes on to and that stands so, changed
+-- m is the table l with the line of one record replaced: the line that a call finds, in the phase that its own goes on to and that stands so, changed
 abbrev pub GoesAt : List ℕ → ℕ → ℕ → Standing → List ℕ → (Line → Line) → Type 0
 GoesAt l i time s m f =
     let x = lineFrom (slot l i) in

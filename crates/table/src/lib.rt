@@ -147,7 +147,7 @@ pub fn childless_at(table: &[u8], i: usize) -> Record
     read_childless(part(table, RECORD * i, RECORD))
 }
 
-// The line of a used record, of which only where its phase stands is known.
+// The line of a used record, of which only the bare phase is known.
 pub fn unlisted_at(table: &[u8], i: usize) -> Record
     requires { ⌜ UsedAt (now table) i ⌝ }
     ensures { λ r. ⌜ lineOf r ≡ unheld (bare (lineFrom (slot (now (table .entry)) i) .phase)) [] ⌝ }
@@ -156,7 +156,7 @@ pub fn unlisted_at(table: &[u8], i: usize) -> Record
     read_unlisted(part(table, RECORD * i, RECORD))
 }
 
-// The line of a used record, of which only where its phase stands and the children are known.
+// The line of a used record, of which only the bare phase and the children are known.
 pub fn unheld_at(table: &[u8], i: usize) -> Record
     requires { ⌜ UsedAt (now table) i ⌝ }
     ensures { λ r. ⌜ lineOf r ≡ unheld (bare (lineFrom (slot (now (table .entry)) i) .phase)) (lineFrom (slot (now (table .entry)) i) .children) ⌝ }
@@ -232,7 +232,7 @@ pub fn keep_child_at(table: &mut [u8], i: usize, time: u64, s: Standing, child: 
     keep_child(&mut table[at..at + RECORD], time, s, child);
 }
 
-// Stores the time of a line that has a chosen address; the line is idle, and the address is held behind the holds in force where the count is 1.
+// Stores the time of a line that has a chosen address; the line becomes idle, and the address is held behind the holds in force where the count is 1.
 pub fn keep_hold_at(table: &mut [u8], i: usize, time: u64, end: End, count: usize)
     requires { ⌜ UsedAt (now table) i × (count ≤ 1) ⌝ }
     ensures { λ _. ⌜ ((a : Address) → chosen (lineFrom (slot (now (table .entry)) i) .phase) ≡ some a → Wrote (now (table .entry)) (recordLength * i) (recordOctets (field (slot (now (table .entry)) i) 0 1) (heldFor time a end count (lineFrom (slot (now (table .entry)) i)))) (now (table .exit))) ⌝ }

@@ -2,7 +2,6 @@
 use mathlib.Core.Path.{ap}
 use borrow.Author.Needs.{needs}
 use Rattle.standing.specs.declared.Standing.{Standing}
-use Rattle.frame.specs.declared.Went.{Went}
 use Rattle.frame.proofs.went_of.Statement.{statement}
 use Rattle.frame.proofs.went_of.Tie as tie
 
