@@ -2,7 +2,7 @@
 ghost use mathlib.Core.Path.{_≡_};
 ghost use Prim.Native.Nat.{_≤_};
 ghost use lib.ListN.{drop, take};
-ghost use Rattle.address.specs.Address.{heldAddresses, mostHolds, permitted, sameAddress, stands, versionOf};
+ghost use Rattle.address.specs.Address.{heldAddresses, mostHolds, sameAddress, stands, versionOf};
 
 // An address: 32 bits of version 4, or the two halves of 128 bits of version 6.
 pub enum Address {
@@ -66,15 +66,4 @@ pub fn is_held(holds: [Hold; HOLDS], from: usize, n: usize, a: Address) -> bool
         i += 1;
     }
     false
-}
-
-// Whether an address has the local IP version and is not on hold.
-pub fn is_permitted(a: Address, local: u64, holds: [Hold; HOLDS], n: usize) -> bool
-    requires { ⌜ n ≤ mostHolds ⌝ }
-    ensures { λ r. ⌜ r ≡ permitted local (heldAddresses (take n holds)) a ⌝ }
-{
-    if version(a) != local {
-        return false;
-    }
-    !is_held(holds, 0, n, a)
 }

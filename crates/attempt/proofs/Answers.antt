@@ -18,14 +18,8 @@ use Rattle.rules.specs.declared.Action.the-variants as Action
 use Rattle.step.specs.Step.{Gives, effect, effectIn}
 use Rattle.step.specs.declared.Stepped.{Stepped}
 use Rattle.step.proofs.Steps.{taken, turned-away}
-use Rattle.attempt.specs.Attempt.{Says}
+use Rattle.attempt.specs.Attempt.{Answers, Says}
 use Rattle.attempt.specs.declared.Move.{Move}
-
--- the event comes to the answer, whose part lies in the lent octets
-abbrev pub Answers : Event → ℕ → Record → Stepped → List ℕ → List ℕ → Type 0
-Answers e time line r text name =
-    (effectIn r (partNamed (numbersOf (r .action)) text name []) name ≡ effect e time (lineOf line))
-    × (PartWithin (numbersOf (r .action)) text name [] × InArrays (r .line))
 
 -- an action without a part
 module _ (action : Action) (is-nothing : action ≡ Action.Nothing) (text name : List ℕ) where

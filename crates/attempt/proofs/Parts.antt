@@ -8,7 +8,6 @@ use Rattle.octets.specs.Part.{part}
 use Rattle.octets.proofs.Parts.{length-part}
 use Rattle.address.specs.Address.{heldAddresses}
 use Rattle.address.specs.declared.Address as Address
-use Rattle.address.specs.declared.Hold.{Hold}
 use Rattle.gateway.specs.Gateway.{choose}
 use Rattle.gateway.specs.declared.Found.{Found}
 use Rattle.gateway.specs.declared.Found.the-variants as Found
@@ -84,10 +83,10 @@ module _ (x : Line) (f : Facts) (text : List ℕ) (c : Choice) where
         rw (is-asked, told, length-part text at n inside) (refl, refl)
 
   -- an address is an answer list of one
-  pub answers-one : (hs : List Hold) → x .holds ≡ hs → (a : Address.Address) → c ≡ Address a → (found : Found) → found ≡ choose (f .version) (heldAddresses hs) (a ∷ []) → (r : Move) → Comes r found → Decides r
+  pub answers-one : (a : Address.Address) → c ≡ Address a → (found : Found) → found ≡ choose (f .version) (heldAddresses (x .holds)) (a ∷ []) → (r : Move) → Comes r found → Decides r
   unfolding decided goes
-  answers-one hs held a told found is r comes =
-      let same = ap (λ (l : List Hold). gatewayFound x (choose (f .version) (heldAddresses l) (a ∷ []))) held ∙ ap (gatewayFound x) (sym is) ∙ comes x in
+  answers-one a told found is r comes =
+      let same = ap (gatewayFound x) (sym is) ∙ comes x in
       rw told (ap (λ (o : Outcome). o .line) same, sym (ap (λ (o : Outcome). o .action) same))
 
   -- the name of the choice was built and lies in its slice

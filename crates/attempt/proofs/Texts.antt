@@ -20,21 +20,21 @@ use Rattle.attempt.specs.Lent.{LentIs, readRefusals, textRefusals}
 use Rattle.attempt.specs.declared.lent.Lent.{Lent}
 
 -- a text that is too long
-pub too-long : (text : List ℕ) (f : Option Facts) (c : Config) → isLong text ≡ true → Within text c → LentIs (record { refusal = 8; config = c }) text f
+pub too-long : (ps bs text : List ℕ) (f : Option Facts) (c : Config) → isLong text ≡ true → Within text ps bs c → LentIs (record { refusal = 8; config = c }) ps bs text f
 unfolding textRefusals refusal
-too-long text f c long within = record { refusal-is = rw long; settings-are = λ e. absurd (omega (arith, e)); within = within }
+too-long ps bs text f c long within = record { refusal-is = rw long; settings-are = λ e. absurd (omega (arith, e)); within = within }
 
 -- a text that is not, and was parsed
-module _ (text : List ℕ) (f : Option Facts) (p : Parsed) (is-read : parsed p ≡ configOf text) where
-  says : refusal (readRefusals (parsed p) f) ≡ 0 → parsed p ≡ some (settingsIn (p .config))
+module _ (ps bs text : List ℕ) (f : Option Facts) (p : Parsed) (is-read : parsed ps bs p ≡ configOf text) where
+  says : refusal (readRefusals (parsed ps bs p) f) ≡ 0 → parsed ps bs p ≡ some (settingsIn ps bs (p .config))
   unfolding parsed isHomeAbroad isSome refusal readRefusals
   says = go (p .ok)
     where
-      go : (b : Bool) → refusal (readRefusals (cond b (some (settingsIn (p .config))) none) f) ≡ 0 → cond b (some (settingsIn (p .config))) none ≡ some (settingsIn (p .config))
+      go : (b : Bool) → refusal (readRefusals (cond b (some (settingsIn ps bs (p .config))) none) f) ≡ 0 → cond b (some (settingsIn ps bs (p .config))) none ≡ some (settingsIn ps bs (p .config))
       go true e = refl
       go false e = absurd (omega (arith, e))
 
-  pub not-too-long : (n : ℕ) → isLong text ≡ false → n ≡ refusal (readRefusals (parsed p) f) → Within text (p .config) → LentIs (record { refusal = n; config = p .config }) text f
+  pub not-too-long : (n : ℕ) → isLong text ≡ false → n ≡ refusal (readRefusals (parsed ps bs p) f) → Within text ps bs (p .config) → LentIs (record { refusal = n; config = p .config }) ps bs text f
   unfolding textRefusals readRefusals
   not-too-long n short number within = record {
     refusal-is = number ∙ rw (is-read, short);
@@ -73,7 +73,7 @@ pub record Tested (e : Event) (out : Bool) (x : Line) (r : Lent) : Type 0 where
 -- an event that is refused by 8 for a test of its own and for its text, and by 9 for its text
 module _ (e : Event) (x : Line) (out own : Bool) (text : List ℕ) (f : Option Facts)
     (outside : isOutOfRange e x ≡ own || isLong text || isHomeAbroad (configOf text) f) (ill : isMalformed e ≡ not (isSome (configOf text)))
-    (r : Lent) (reads : LentIs r text f) (passed : out || own ≡ false) where
+    (r : Lent) (ps bs : List ℕ) (reads : LentIs r ps bs text f) (passed : out || own ≡ false) where
   refused-by-text : (r .refusal ≡ 0 → ⊥) → refusal (refusalsOf e out x) ≡ r .refusal
   unfolding refusalsOf textRefusals
   refused-by-text h =

@@ -27,7 +27,7 @@ unfoldable pub textRefusals : List ℕ → Option Facts → List Refusal
 textRefusals text f = (8 when (isLong text || isHomeAbroad (configOf text) f)) ∷ (9 when not (isSome (configOf text))) ∷ []
 
 -- what was read of a text: its refusal number, and where that is 0 what it says; a name in it lies within the text
-pub record LentIs (r : Lent) (text : List ℕ) (f : Option Facts) : Type 0 where
+pub record LentIs (r : Lent) (ps bs text : List ℕ) (f : Option Facts) : Type 0 where
   pub refusal-is : r .refusal ≡ refusal (textRefusals text f)
-  pub settings-are : r .refusal ≡ 0 → configOf text ≡ some (settingsIn (r .config))
-  pub within : Within text (r .config)
+  pub settings-are : r .refusal ≡ 0 → configOf text ≡ some (settingsIn ps bs (r .config))
+  pub within : Within text ps bs (r .config)

@@ -11,7 +11,7 @@ ghost use mathlib.Core.Bool.{cond};
 ghost use mathlib.Core.Option.{none};
 ghost use mathlib.Core.Path.{_≡_};
 ghost use Rattle.octets.specs.Refusal.{refusal};
-ghost use Rattle.config.specs.Settings.{parsed};
+ghost use Rattle.config.specs.Settings.{parsed, Room};
 ghost use Rattle.phase.specs.Stage as Stage;
 ghost use Rattle.phase.specs.Stage.{isIn};
 ghost use Rattle.rules.specs.Phases.{factsIn};
@@ -23,7 +23,7 @@ pub(crate) enum MaybeFacts {
     Are(Facts),
 }
 
-// A text that was read: its refusal number, 8, 9 or 0, and where that is 0 what the text says.
+// A text that was read: its refusal number, 8, 9 or 0, and where that is 0 what the text says beside the two lists.
 pub(crate) struct Lent {
     pub refusal: u64,
     pub config: Config,
@@ -40,8 +40,8 @@ pub(crate) fn awaiting(phase: Phase) -> MaybeFacts
 }
 
 // The refusal of a text that is not too long: 8 where the place is abroad with its home MCC, 9 where it is not well formed.
-fn refusal_of(text: Parsed, facts: MaybeFacts) -> u64
-    ensures { λ r. ⌜ r ≡ refusal (readRefusals (parsed text) (factsOption facts)) ⌝ }
+fn refusal_of(text: Parsed, preferred: &[u64], barred: &[u64], facts: MaybeFacts) -> u64
+    ensures { λ r. ⌜ r ≡ refusal (readRefusals (parsed (now (preferred .entry)) (now (barred .entry)) text) (factsOption facts)) ⌝ }
 {
     if !text.ok {
         return 9;
@@ -51,25 +51,31 @@ fn refusal_of(text: Parsed, facts: MaybeFacts) -> u64
     };
     let config = text.config;
     let place = f.place;
-    if is_home_abroad(config, place) {
+    if is_home_abroad(config, preferred, barred, place) {
         return 8;
     }
     0
 }
 
-// Reads a lent text once, unless it is too long.
-pub(crate) fn read(text: &[u8], facts: MaybeFacts) -> Lent
-    ensures { λ r. ⌜ LentIs r (now (text .entry)) (factsOption facts) ⌝ }
+// Reads a lent text once, unless it is too long; its `plmn` entries and barred PLMNs are left in two lists.
+pub(crate) fn read(
+    text: &[u8],
+    facts: MaybeFacts,
+    preferred: &mut [u64],
+    barred: &mut [u64],
+) -> Lent
+    requires { ⌜ Room (now preferred) (now barred) ⌝ }
+    ensures { λ r. ⌜ LentIs r (now (preferred .exit)) (now (barred .exit)) (now (text .entry)) (factsOption facts) ⌝ }
 {
     if MOST_TEXT < text.len() {
         let unread = ill_formed();
         let config = unread.config;
         return Lent { refusal: 8, config };
     }
-    let parsed = parse(text);
+    let parsed = parse(text, preferred, barred);
     let config = parsed.config;
     Lent {
-        refusal: refusal_of(parsed, facts),
+        refusal: refusal_of(parsed, preferred, barred, facts),
         config,
     }
 }

@@ -1,12 +1,11 @@
 // A line's attempt to reach a gateway, from start to the chosen address.
+pub mod choice;
 mod given;
 mod lent;
 
-use crate::given::facts_of;
-use crate::given::numbers_fit;
-use crate::lent::MaybeFacts;
-use crate::lent::awaiting;
-use crate::lent::read;
+use crate::choice::Chosen;
+use crate::choice::country_choice;
+use crate::choice::start_choice;
 use address::HOLDS;
 use address::Hold;
 use address::is_held;
@@ -17,11 +16,8 @@ use gateway::choose_one;
 use lists::ENTRIES;
 use lists::address_at;
 use lists::addresses_fit;
-use lists::networks_fit;
 use octets::slice::zero;
-use phase::IDLE;
 use phase::Phase;
-use phase::number;
 use place::Facts;
 use query::asked;
 use query::build;
@@ -36,7 +32,8 @@ use step::is_late;
 use step::refused;
 ghost use mathlib.Core.List.{List, []};
 ghost use mathlib.Core.Path.{_≡_};
-ghost use Prim.Native.Nat.{_*_, _≤_};
+ghost use Prim.Native.Nat.{ℕ, _*_, _≤_};
+ghost use lib.Dec.{ltb};
 ghost use lib.ListN.{length, take};
 ghost use Rattle.octets.specs.Row.{only};
 ghost use Rattle.address.specs.Address.{heldAddresses, mostHolds};
@@ -47,17 +44,16 @@ ghost use Rattle.lists.specs.Held.{HeldAre};
 ghost use Rattle.lists.specs.Lists.{mostEntries};
 ghost use Rattle.network.specs.Name.{nameRoom};
 ghost use Rattle.query.specs.Query.{TextWithin};
-ghost use Rattle.record.specs.Changes.{withHolds};
+ghost use Rattle.record.specs.Changes.{current, withHolds};
 ghost use Rattle.record.specs.Line.{Line, lineOf, InArrays};
-ghost use Rattle.rules.specs.Answer.{numbersOf, partNamed, PartWithin};
-ghost use Rattle.rules.specs.Call.{address, country, start};
+ghost use Rattle.rules.specs.Answer.{eventRoom, numbersOf, partNamed, PartWithin};
+ghost use Rattle.rules.specs.Call.{address, country, lastTime, start, Event};
 ghost use Rattle.rules.specs.Life.{decided};
-ghost use Rattle.rules.specs.Refusals.{badNetworks};
 ghost use Rattle.step.specs.Step.{effect, effectIn};
-ghost use Rattle.attempt.specs.Attempt.{answeredOn, Comes, Says};
+ghost use Rattle.attempt.specs.Attempt.{answeredOn, Answers, Chooses, Comes, HoldTold, Says};
 
 // The phase that a line goes to, and what the daemon has to do.
-pub(crate) struct Move {
+pub struct Move {
     pub phase: Phase,
     pub action: Action,
 }
@@ -78,17 +74,10 @@ fn gateway_found(found: Found) -> Move
     }
 }
 
-// What S1 to S4 came to: selection stops, a name is asked, or an address is treated as an answer list of one; of a line with the first m of some holds.
-fn decided(
-    holds: [Hold; HOLDS],
-    m: usize,
-    facts: Facts,
-    choice: Choice,
-    text: &[u8],
-    name: &mut [u8],
-) -> Move
-    requires { ⌜ (m ≤ mostHolds) × TextWithin (now text) choice × (nameRoom ≤ length (now name)) ⌝ }
-    ensures { λ r. ⌜ ((x : Line) → x .holds ≡ take m holds → Says r x (decided x facts (now (text .entry)) choice) (now (text .entry)) (now (name .exit)) (length (now (name .entry)))) ⌝ }
+// What S1 to S4 came to: selection stops, a name is asked, or an address, of which it is told whether it is on hold, is treated as an answer list of one.
+pub fn decided(held: bool, facts: Facts, choice: Choice, text: &[u8], name: &mut [u8]) -> Move
+    requires { ⌜ TextWithin (now text) choice × (nameRoom ≤ length (now name)) ⌝ }
+    ensures { λ r. ⌜ ((x : Line) → HoldTold held choice (x .holds) → Says r x (decided x facts (now (text .entry)) choice) (now (text .entry)) (now (name .exit)) (length (now (name .entry)))) ⌝ }
 {
     let n = build(choice, name);
     let length = asked(choice, text, name, n).len();
@@ -109,8 +98,41 @@ fn decided(
             phase: Phase::Name(facts),
             action: Action::AskBuilt(length),
         },
-        Choice::Address(a) => gateway_found(choose_one(a, facts.version, holds, m)),
+        Choice::Address(a) => gateway_found(choose_one(a, facts.version, held)),
     }
+}
+
+// Whether a choice is an address that stands among the first n holds.
+fn is_choice_held(choice: Choice, holds: [Hold; HOLDS], n: usize) -> bool
+    requires { ⌜ n ≤ mostHolds ⌝ }
+    ensures { λ r. ⌜ HoldTold r choice (take n holds) ⌝ }
+{
+    match choice {
+        Choice::Address(a) => is_held(holds, 0, n, a),
+        Choice::Stop(_) => false,
+        Choice::Country(_) => false,
+        Choice::Text { at: _, length: _ } => false,
+        Choice::Network(_) => false,
+    }
+}
+
+// What a choice leaves of a line, which was found without its ended holds: it is refused, or goes on.
+fn finished(line: Record, found: Record, chosen: Chosen, text: &[u8], name: &mut [u8]) -> Stepped
+    requires { ⌜ InArrays line × InArrays found × TextWithin (now text) (chosen .choice) × (nameRoom ≤ length (now name)) ⌝ }
+    ensures { λ r. ⌜ ((e : Event) (time : ℕ) → length (now (name .entry)) ≡ eventRoom e → lineOf found ≡ current time (lineOf line) → Chooses chosen e (ltb lastTime time) (lineOf found) (now (text .entry)) → Answers e time line r (now (text .entry)) (now (name .exit))) ⌝ }
+{
+    if chosen.refusal != 0 {
+        zero(name);
+        return refused(line, chosen.refusal);
+    }
+    let choice = chosen.choice;
+    let facts = chosen.facts;
+    let holds = found.holds;
+    let held = is_choice_held(choice, holds, found.hold_count);
+    let moved = decided(held, facts, choice, text, name);
+    let next = moved.phase;
+    let action = moved.action;
+    goes(found, next, action)
 }
 
 // Start: the gateway is chosen up to the question that is asked first.
@@ -120,43 +142,10 @@ pub fn start(line: Record, time: u64, given: StartNumbers, text: &[u8], name: &m
     ensures { λ r. ⌜ PartWithin (numbersOf (r .action)) (now (text .entry)) (now (name .exit)) [] ⌝ }
     ensures { λ r. ⌜ InArrays (r .line) ⌝ }
 {
-    zero(name);
     let found = current(line, time);
-    if is_late(time) | !numbers_fit(given) {
-        return refused(line, 8);
-    }
-    let facts = facts_of(given);
-    let lent = read(text, MaybeFacts::Are(facts));
-    if lent.refusal != 0 {
-        return refused(line, lent.refusal);
-    }
     let phase = found.phase;
-    if number(phase) != IDLE {
-        return refused(line, 10);
-    }
-    if HOLDS <= found.hold_count {
-        return refused(line, 13);
-    }
-    let config = lent.config;
-    let choice = selection::start(config, facts);
-    let holds = found.holds;
-    let moved = decided(holds, found.hold_count, facts, choice, text, name);
-    let next = moved.phase;
-    let action = moved.action;
-    goes(found, next, action)
-}
-
-// Whether a lent list of networks is out of its range, or comes without a reply.
-fn are_bad(replied: u64, networks: &[u8]) -> bool
-    ensures { λ r. ⌜ r ≡ badNetworks replied (now (networks .entry)) ⌝ }
-{
-    if 1 < replied {
-        return true;
-    }
-    if !networks_fit(networks) {
-        return true;
-    }
-    (replied == 0) & (0 < networks.len())
+    let chosen = start_choice(phase, time, given, text, found.hold_count);
+    finished(line, found, chosen, text, name)
 }
 
 // The country answer: a network is chosen of those that are listed or configured.
@@ -173,26 +162,10 @@ pub fn country_answer(
     ensures { λ r. ⌜ PartWithin (numbersOf (r .action)) (now (text .entry)) (now (name .exit)) [] ⌝ }
     ensures { λ r. ⌜ InArrays (r .line) ⌝ }
 {
-    zero(name);
     let found = current(line, time);
-    if is_late(time) | are_bad(replied, networks) {
-        return refused(line, 8);
-    }
     let phase = found.phase;
-    let lent = read(text, awaiting(phase));
-    if lent.refusal != 0 {
-        return refused(line, lent.refusal);
-    }
-    let Phase::Country(facts) = phase else {
-        return refused(line, 10);
-    };
-    let config = lent.config;
-    let choice = selection::country(config, facts, replied == 1, networks);
-    let holds = found.holds;
-    let moved = decided(holds, found.hold_count, facts, choice, text, name);
-    let next = moved.phase;
-    let action = moved.action;
-    goes(found, next, action)
+    let chosen = country_choice(phase, time, replied, networks, text);
+    finished(line, found, chosen, text, name)
 }
 
 // The address answer, told of each address whether it is on hold: the first that is permitted is chosen.

@@ -1,4 +1,5 @@
 -- What the exported calls return.
+pub mod Finishing
 pub mod Lists
 pub mod Opens
 pub mod Timed

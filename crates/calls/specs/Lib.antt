@@ -1,2 +1,3 @@
 -- What the exported calls return.
 pub mod Returned
+pub mod Finishing

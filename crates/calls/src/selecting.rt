@@ -1,22 +1,88 @@
 // From start to the chosen address.
 use crate::refuse;
 use attempt::answered;
-use attempt::country_answer;
+use attempt::choice::Chosen;
+use attempt::choice::country_choice;
+use attempt::choice::start_choice;
+use attempt::decided;
+use frame::Entered;
+use frame::Moved;
 use frame::enter;
 use frame::move_of;
 use frame::settle;
 use network::NAME_ROOM;
 use rules::StartNumbers;
-use table::childless_at;
+use selection::Choice;
 use table::held_at;
+use table::in_force_at;
+use table::is_held_at;
+use table::phase_at;
 use table::unlisted_at;
 ghost use mathlib.Core.List.{[]};
 ghost use mathlib.Core.Path.{_≡_};
+ghost use Prim.Native.Nat.{_≤_};
 ghost use lib.ListN.{length};
+ghost use Rattle.attempt.specs.Attempt.{HoldTold};
+ghost use Rattle.frame.specs.Entering.{Stands};
+ghost use Rattle.network.specs.Name.{nameRoom};
+ghost use Rattle.query.specs.Query.{TextWithin};
+ghost use Rattle.record.specs.Changes.{current};
+ghost use Rattle.record.specs.Octets.{lineFrom};
+ghost use Rattle.table.specs.Table.{slot, UsedAt};
 ghost use Rattle.rules.specs.Answer.{partNamed, PartWithin};
 ghost use Rattle.rules.specs.Call.{address, country, start, startNumbers, timed};
 ghost use Rattle.rules.specs.Run.{run};
+ghost use Rattle.calls.specs.Finishing.{Finishes};
 ghost use Rattle.calls.specs.Returned.{returned};
+
+// Whether a choice is an address that the line of a used record holds at a time.
+fn is_choice_held(table: &[u8], i: usize, time: u64, choice: Choice) -> bool
+    requires { ⌜ UsedAt (now table) i ⌝ }
+    ensures { λ r. ⌜ HoldTold r choice (current time (lineFrom (slot (now (table .entry)) i)) .holds) ⌝ }
+{
+    match choice {
+        Choice::Address(a) => is_held_at(table, i, time, a),
+        Choice::Stop(_) => false,
+        Choice::Country(_) => false,
+        Choice::Text { at: _, length: _ } => false,
+        Choice::Network(_) => false,
+    }
+}
+
+// What a choice leaves of the line that a call is about: the call is refused, or what is decided is stored and answered.
+fn finish(
+    table: &mut [u8],
+    entered: Entered,
+    time: u64,
+    chosen: Chosen,
+    text: &[u8],
+    name: &mut [u8],
+    answer: &mut [u64; 12],
+) -> u64
+    requires { ⌜ Stands entered (now table) × TextWithin (now text) (chosen .choice) × (nameRoom ≤ length (now name)) ⌝ }
+    ensures { λ r. ⌜ Finishes entered time chosen r (now (text .entry)) (length (now (name .entry))) (now (name .exit)) (now (answer .exit)) (now (table .entry)) (now (table .exit)) ⌝ }
+{
+    if chosen.refusal != 0 {
+        return refuse(chosen.refusal, name, answer);
+    }
+    let choice = chosen.choice;
+    let facts = chosen.facts;
+    let held = is_choice_held(table, entered.at, time, choice);
+    let moved = decided(held, facts, choice, text, name);
+    let phase = moved.phase;
+    let action = moved.action;
+    settle(
+        table,
+        entered,
+        time,
+        Moved {
+            refusal: 0,
+            phase,
+            action,
+        },
+        answer,
+    )
+}
 
 // Starts an attempt: selection goes on until it asks a name, chooses an address or stops.
 pub fn start(
@@ -49,9 +115,10 @@ pub fn start(
         registered_mnc,
         version,
     };
-    let found = childless_at(table, entered.at);
-    let stepped = attempt::start(found, time, given, text, name);
-    settle(table, entered, time, move_of(stepped), answer)
+    let phase = phase_at(table, entered.at);
+    let in_force = in_force_at(table, entered.at, time);
+    let chosen = start_choice(phase, time, given, text, in_force);
+    finish(table, entered, time, chosen, text, name, answer)
 }
 
 // Takes the answer to the country query.
@@ -73,9 +140,9 @@ pub fn country(
     if entered.refusal != 0 {
         return refuse(entered.refusal, name, answer);
     }
-    let found = childless_at(table, entered.at);
-    let stepped = country_answer(found, time, replied, networks, text, name);
-    settle(table, entered, time, move_of(stepped), answer)
+    let phase = phase_at(table, entered.at);
+    let chosen = country_choice(phase, time, replied, networks, text);
+    finish(table, entered, time, chosen, text, name, answer)
 }
 
 // Takes the answer to the gateway's name: the addresses.

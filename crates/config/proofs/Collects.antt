@@ -20,9 +20,9 @@ use Rattle.config.specs.declared.list.Kind.{Kind}
 use Rattle.config.specs.declared.list.Section.{Section}
 
 -- entries that are not accepted
-pub not-accepted : (kind : Kind) (l : List ℕ) (at : ℕ) (r : Section) → (r .ok ≡ false) × (r .count ≡ 0) × (r .next ≡ 0)
-    → false ≡ accepted (map plmnIn (section (asListed kind) (entriesFrom l at))) → SectionIs kind l at r
-not-accepted kind l at r h e₀ =
+pub not-accepted : (kind : Kind) (l : List ℕ) (at : ℕ) (list : List ℕ) (r : Section) → (r .ok ≡ false) × (r .count ≡ 0) × (r .next ≡ 0)
+    → false ≡ accepted (map plmnIn (section (asListed kind) (entriesFrom l at))) → SectionIs kind l at list r
+not-accepted kind l at list r h e₀ =
     let none : r .count ≡ 0 = h .1 in
     let start : r .next ≡ 0 = h .2 in
     record {

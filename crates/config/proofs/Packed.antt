@@ -6,16 +6,16 @@ use Rattle.network.specs.declared.Plmn.{Plmn}
 use Rattle.config.specs.Settings.{listedIn}
 
 -- the number of an MCC and an MNC keeps both
-pub keeps-plmn : (m k : ℕ) → k < 1000 → _≡_ {A = Plmn} (record { mcc = (m * 1024 + k) / 1024; mnc = (m * 1024 + k) % 1024 }) (record { mcc = m; mnc = k })
+pub keeps-plmn : (m k : ℕ) → k < 1000 → _≡_ {A = Plmn} (record { mcc = (m * 65536 + k) / 65536; mnc = (m * 65536 + k) % 65536 }) (record { mcc = m; mnc = k })
 keeps-plmn m k h =
-    let first : (m * 1024 + k) / 1024 ≡ m = omega arith in
-    let second : (m * 1024 + k) % 1024 ≡ k = omega arith in
+    let first : (m * 65536 + k) / 65536 ≡ m = omega arith in
+    let second : (m * 65536 + k) % 65536 ≡ k = omega arith in
     λ i. record { mcc = first i; mnc = second i }
 
 -- the number of a PLMN and a priority keeps both
-pub keeps : (p x : ℕ) → x < 256 → listedIn (p * 256 + x) ≡ record { plmn = record { mcc = p / 1024; mnc = p % 1024 }; priority = x }
+pub keeps : (p x : ℕ) → x < 256 → listedIn (p * 256 + x) ≡ record { plmn = record { mcc = p / 65536; mnc = p % 65536 }; priority = x }
 unfolding listedIn
 keeps p x h =
     let first : (p * 256 + x) / 256 ≡ p = omega arith in
     let second : (p * 256 + x) % 256 ≡ x = omega arith in
-    λ i. record { plmn = record { mcc = first i / 1024; mnc = first i % 1024 }; priority = second i }
+    λ i. record { plmn = record { mcc = first i / 65536; mnc = first i % 65536 }; priority = second i }

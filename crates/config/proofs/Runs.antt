@@ -1,17 +1,15 @@
 -- The entries of one kind at the start of a text, line by line.
 use Prim.Native.Nat.{ℕ, _≤_, _<_}
 use mathlib.Core.List.{List, [], _∷_}
-use mathlib.Core.Option.{Option, none}
-use mathlib.Core.Path.{_≡_, refl, sym, ap, _∙_, subst}
+use mathlib.Core.Option.{Option, none, some}
+use mathlib.Core.Path.{_≡_, sym, ap, _∙_}
 use lib.ListN.{length}
 use Rattle.entry.specs.declared.Entry.{Entry}
-use Rattle.entry.specs.declared.Entry.the-variants.{Bad}
 use Rattle.entry.specs.declared.field.Preferred.{Preferred}
 use Rattle.config.specs.Lines.{entriesFrom}
-use Rattle.config.specs.Branch.{listedOf, nextOf, ListedIs}
-use Rattle.config.specs.Settings.{asListed, section, rest, taken, left}
+use Rattle.config.specs.Branch.{ListedIs}
+use Rattle.config.specs.Settings.{asListed, listedIn, section, rest, taken, left}
 use Rattle.config.specs.declared.list.Kind.{Kind}
-use Rattle.config.specs.declared.list.Listed.{Listed}
 use Rattle.config.specs.declared.list.Listed.the-variants.{Is, Not}
 
 module _ (kind : Kind) (l : List ℕ) (at : ℕ) where
@@ -23,22 +21,15 @@ module _ (kind : Kind) (l : List ℕ) (at : ℕ) where
   unfolding section rest taken left
   nothing-listed e es h k = (ap (section f) h ∙ ap (λ (o : Option Preferred). taken o (section f es)) k, ap (rest f) h ∙ ap (λ (o : Option Preferred). left o (e ∷ es) (rest f es)) k ∙ sym h)
 
-  pub line-listed : (e : Entry) (next : ℕ) → entriesFrom l at ≡ e ∷ entriesFrom l next → at < next → next ≤ length l
-      → (r : Listed) → listedOf r ≡ asListed kind e → nextOf r next → ListedIs kind l at r
-  unfolding section rest taken left listedOf
-  line-listed e next h below within Not k to = nothing-listed e (entriesFrom l next) h (sym k)
-  line-listed e next h below within (Is x n) k to =
-      subst (λ (m : ℕ). ListedIs kind l at (Is x m)) (sym to) (
-        ap (section f) h ∙ ap (λ (o : Option Preferred). taken o (section f (entriesFrom l next))) (sym k),
-        ap (rest f) h ∙ ap (λ (o : Option Preferred). left o (e ∷ entriesFrom l next) (rest f (entriesFrom l next))) (sym k),
-        below,
-        within,
-      )
+  pub line-listed : (e : Entry) (next : ℕ) → entriesFrom l at ≡ e ∷ entriesFrom l next → at < next → next ≤ length l → (x : ℕ) → some (listedIn x) ≡ asListed kind e → ListedIs kind l at (Is x next)
+  unfolding section rest taken left
+  line-listed e next h below within x k = (
+    ap (section f) h ∙ ap (λ (o : Option Preferred). taken o (section f (entriesFrom l next))) (sym k),
+    ap (rest f) h ∙ ap (λ (o : Option Preferred). left o (e ∷ entriesFrom l next) (rest f (entriesFrom l next))) (sym k),
+    below,
+    within,
+  )
 
   pub end-listed : entriesFrom l at ≡ [] → ListedIs kind l at Not
   unfolding section rest
   end-listed h = (ap (section f) h, ap (rest f) h ∙ sym h)
-
-  pub bad-listed : entriesFrom l at ≡ Bad ∷ [] → ListedIs kind l at Not
-  unfolding asListed
-  bad-listed h = nothing-listed Bad [] h refl

@@ -25,9 +25,9 @@ use Rattle.config.specs.declared.list.Kind.the-variants as Kind
 unfoldable pub plmnIn : Preferred → Plmn
 plmnIn x = x .plmn
 
--- the listed entry that a number keeps: its MCC, then ten bits of its MNC, then eight of its priority
+-- the listed entry that a number keeps: its MCC, then sixteen bits of its MNC, as in a lent list of networks, then eight of its priority
 unfoldable pub listedIn : ℕ → Preferred
-listedIn x = record { plmn = record { mcc = x / 256 / 1024; mnc = x / 256 % 1024 }; priority = x % 256 }
+listedIn x = record { plmn = record { mcc = x / 256 / 65536; mnc = x / 256 % 65536 }; priority = x % 256 }
 
 -- a configuration with its entries as lists
 pub record Settings : Type 0 where
@@ -36,13 +36,13 @@ pub record Settings : Type 0 where
   pub plmns : List Preferred
   pub bars : List Plmn
 
--- the configuration that the code's struct holds
-unfoldable pub settingsIn : Config → Settings
-settingsIn c = record {
+-- the configuration that the code's struct holds, with the two lists that lie beside it
+unfoldable pub settingsIn : List ℕ → List ℕ → Config → Settings
+settingsIn ps bs c = record {
   home = c .home;
   node = c .node;
-  plmns = map listedIn (take (c .«plmn_count») (c .plmns));
-  bars = map plmnIn (map listedIn (take (c .«bar_count») (c .bars)));
+  plmns = map listedIn (take (c .«plmn_count») ps);
+  bars = map plmnIn (map listedIn (take (c .«bar_count») bs));
 }
 
 -- the most entries of one kind, `plmn` or `bar`, that a text has
@@ -152,8 +152,8 @@ unfoldable pub configOf : List ℕ → Option Settings
 configOf text = fromHome (namePlace text) (entriesFrom text 0)
 
 -- what the code's answer says
-unfoldable pub parsed : Parsed → Option Settings
-parsed r = cond (r .ok) (some (settingsIn (r .config))) none
+unfoldable pub parsed : List ℕ → List ℕ → Parsed → Option Settings
+parsed ps bs r = cond (r .ok) (some (settingsIn ps bs (r .config))) none
 
 -- a node name lies in the text
 abbrev pub NodeWithin : List ℕ → Node → Type 0
@@ -161,12 +161,16 @@ NodeWithin text Node.None = Unit {0}
 NodeWithin text (Node.Name at n) = at + n ≤ length text
 NodeWithin text (Node.Address a) = Unit {0}
 
--- a configuration whose entries lie in its arrays
-pub record Counted (c : Config) : Type 0 where
-  pub plmns-within : c .«plmn_count» ≤ mostListed
-  pub bars-within : c .«bar_count» ≤ mostListed
+-- two lists that have room for all entries of a text
+abbrev pub Room : List ℕ → List ℕ → Type 0
+Room ps bs = (mostListed ≤ length ps) × (mostListed ≤ length bs)
 
--- what is kept of a text lies in the arrays and in the text
-pub record Within (text : List ℕ) (c : Config) : Type 0 where
-  pub counted : Counted c
+-- a configuration whose entries lie in the lists beside it
+pub record Counted (ps bs : List ℕ) (c : Config) : Type 0 where
+  pub plmns-within : c .«plmn_count» ≤ length ps
+  pub bars-within : c .«bar_count» ≤ length bs
+
+-- what is kept of a text lies in the lists and in the text
+pub record Within (text ps bs : List ℕ) (c : Config) : Type 0 where
+  pub counted : Counted ps bs c
   pub name-within : NodeWithin text (c .node)

@@ -1,6 +1,7 @@
 // The configuration text.
 mod line;
 pub mod list;
+mod nodes;
 pub mod parse;
 
 use address::Address;
@@ -19,13 +20,11 @@ pub enum Node {
     Address(Address),
 }
 
-// A configuration: `plmn` entries and barred PLMNs are those below their counts, each kept as one number.
+// A configuration, whose `plmn` entries and barred PLMNs lie in two lists beside it: those below their counts, each kept as one number.
 pub struct Config {
     pub home: Plmn,
     pub node: Node,
-    pub plmns: [u64; MOST_LISTED],
     pub plmn_count: usize,
-    pub bars: [u64; MOST_LISTED],
     pub bar_count: usize,
 }
 

@@ -1,8 +1,7 @@
 // Lists of PLMNs in the configuration text.
 use crate::MOST_LISTED;
-use crate::line::TextLine;
-use crate::line::line_at;
-use entry::Entry;
+use crate::line::bar_at;
+use crate::line::preference_at;
 use entry::field::Preferred;
 use network::Plmn;
 use network::same_plmn;
@@ -12,10 +11,8 @@ ghost use mathlib.Core.List.{map};
 ghost use Prim.Native.Nat.{_≤_};
 ghost use lib.ListN.{length, take};
 ghost use Rattle.network.specs.Plmn.{among};
-ghost use Rattle.entry.specs.Entry.{Bounded};
-ghost use Rattle.entry.specs.declared.Entry.the-variants.{Preference};
-ghost use Rattle.config.specs.Branch.{listedOf, nextOf, ListedIs, SectionIs};
-ghost use Rattle.config.specs.Settings.{asListed, listedIn, mostListed, plmnIn};
+ghost use Rattle.config.specs.Branch.{ListedIs, SectionIs};
+ghost use Rattle.config.specs.Settings.{listedIn, mostListed, plmnIn};
 
 // The kinds of entry that are listed.
 pub enum Kind {
@@ -24,18 +21,10 @@ pub enum Kind {
 }
 
 // How many numbers the place of an MNC has room for in the number of a listed entry.
-const MNC_ROOM: u64 = 1024;
+pub(crate) const MNC_ROOM: u64 = 65536;
 
 // How many numbers the place of a priority has room for in the number of a listed entry.
-const PRIORITY_ROOM: u64 = 256;
-
-// The number that a listed entry is kept as: its MCC, then its MNC, then its priority.
-fn number_of(p: Preferred) -> u64
-    requires { ⌜ Bounded (Preference p) ⌝ }
-    ensures { λ r. ⌜ listedIn r ≡ p ⌝ }
-{
-    (p.plmn.mcc * MNC_ROOM + p.plmn.mnc) * PRIORITY_ROOM + p.priority
-}
+pub(crate) const PRIORITY_ROOM: u64 = 256;
 
 // The listed entry that a number keeps.
 pub fn listed_in(x: u64) -> Preferred
@@ -58,38 +47,10 @@ pub(crate) enum Listed {
     Not,
 }
 
-// The entry, where it is of the kind; a barred PLMN is kept with priority 0.
-fn of_kind(e: Entry, kind: Kind, next: usize) -> Listed
-    requires { ⌜ Bounded e ⌝ }
-    ensures { λ r. ⌜ listedOf r ≡ asListed kind e ⌝ }
-    ensures { λ r. ⌜ nextOf r next ⌝ }
-{
-    match e {
-        Entry::Preference(p) => match kind {
-            Kind::Plmn => Listed::Is(number_of(p), next),
-            Kind::Bar => Listed::Not,
-        },
-        Entry::Bar(p) => match kind {
-            Kind::Plmn => Listed::Not,
-            Kind::Bar => Listed::Is(
-                number_of(Preferred {
-                    plmn: p,
-                    priority: 0,
-                }),
-                next,
-            ),
-        },
-        Entry::Home(_) => Listed::Not,
-        Entry::Name(_) => Listed::Not,
-        Entry::Node(_) => Listed::Not,
-        Entry::Bad => Listed::Not,
-    }
-}
-
 // Whether a PLMN stands among the first n listed ones.
-pub fn has_preferred(list: [u64; MOST_LISTED], n: usize, p: Plmn) -> bool
-    requires { ⌜ n ≤ mostListed ⌝ }
-    ensures { λ r. ⌜ r ≡ among p (map plmnIn (map listedIn (take n list))) ⌝ }
+pub fn has_preferred(list: &[u64], n: usize, p: Plmn) -> bool
+    requires { ⌜ n ≤ length (now list) ⌝ }
+    ensures { λ r. ⌜ r ≡ among p (map plmnIn (map listedIn (take n (now (list .entry))))) ⌝ }
 {
     let mut i = 0;
     while i < n {
@@ -107,17 +68,15 @@ fn listed_at(text: &[u8], at: usize, kind: Kind) -> Listed
     requires { ⌜ at ≤ length (now text) ⌝ }
     ensures { λ r. ⌜ ListedIs kind (now (text .entry)) at r ⌝ }
 {
-    match line_at(text, at) {
-        TextLine::Whole(e, next) => of_kind(e, kind, next),
-        TextLine::Last => Listed::Not,
-        TextLine::Broken => Listed::Not,
+    match kind {
+        Kind::Plmn => preference_at(text, at),
+        Kind::Bar => bar_at(text, at),
     }
 }
 
-// The entries of one kind from a place on: those below the count, and where the next line begins.
+// The entries of one kind from a place on: how many there are, and where the next line begins.
 pub(crate) struct Section {
     pub ok: bool,
-    pub list: [u64; MOST_LISTED],
     pub count: usize,
     pub next: usize,
 }
@@ -128,25 +87,22 @@ fn refused() -> Section
 {
     Section {
         ok: false,
-        list: [0; MOST_LISTED],
         count: 0,
         next: 0,
     }
 }
 
-// Collects the entries of one kind that follow one another, where there are at most `MOST_LISTED` and no PLMN stands twice.
-pub(crate) fn collect(text: &[u8], start: usize, kind: Kind) -> Section
-    requires { ⌜ start ≤ length (now text) ⌝ }
-    ensures { λ r. ⌜ SectionIs kind (now (text .entry)) start r ⌝ }
+// Collects the entries of one kind that follow one another in a list, where there are at most `MOST_LISTED` and no PLMN stands twice.
+pub(crate) fn collect(text: &[u8], start: usize, kind: Kind, list: &mut [u64]) -> Section
+    requires { ⌜ (start ≤ length (now text)) × (mostListed ≤ length (now list)) ⌝ }
+    ensures { λ r. ⌜ SectionIs kind (now (text .entry)) start (now (list .exit)) r ⌝ }
 {
-    let mut list = [0; MOST_LISTED];
     let mut count = 0;
     let mut at = start;
     loop {
         let Listed::Is(x, next) = listed_at(text, at, kind) else {
             return Section {
                 ok: true,
-                list,
                 count,
                 next: at,
             };

@@ -1,6 +1,5 @@
--- The laws that the proofs of this crate share.
-pub mod Bounds
-pub mod Entries
-pub mod Names
+-- The laws of entries that their readers share.
+pub mod Characters
+pub mod Joins
 pub mod Readings
-pub mod Splits
+pub mod Says

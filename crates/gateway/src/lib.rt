@@ -1,8 +1,5 @@
 // Choosing an address of the gateway.
 use address::Address;
-use address::HOLDS;
-use address::Hold;
-use address::is_permitted;
 use address::version;
 use addresses::ADDRESS;
 use lists::ENTRIES;
@@ -10,8 +7,8 @@ use lists::address_at;
 ghost use mathlib.Core.List.{List, [], _∷_};
 ghost use mathlib.Core.Path.{_≡_};
 ghost use Prim.Native.Nat.{_*_, _≤_};
-ghost use lib.ListN.{length, take};
-ghost use Rattle.address.specs.Address.{heldAddresses, mostHolds};
+ghost use lib.ListN.{length};
+ghost use Rattle.address.specs.Address.{stands};
 ghost use Rattle.address.specs.declared.Address.{Address};
 ghost use Rattle.addresses.specs.Addresses.{addressLength};
 ghost use Rattle.lists.specs.Held.{HeldAre};
@@ -44,12 +41,11 @@ pub fn choose(list: &[u8], local: u64, held: [bool; ENTRIES]) -> Found
     Found::Nothing(i)
 }
 
-// Chooses from a list of one address.
-pub fn choose_one(a: Address, local: u64, holds: [Hold; HOLDS], n: usize) -> Found
-    requires { ⌜ n ≤ mostHolds ⌝ }
-    ensures { λ r. ⌜ r ≡ choose local (heldAddresses (take n holds)) (a ∷ []) ⌝ }
+// Chooses from a list of one address, of which it is told whether it is on hold.
+pub fn choose_one(a: Address, local: u64, held: bool) -> Found
+    ensures { λ r. ⌜ ((hs : List Address) → held ≡ stands a hs → r ≡ choose local hs (a ∷ [])) ⌝ }
 {
-    if is_permitted(a, local, holds, n) {
+    if (version(a) == local) & !held {
         return Found::Chosen(a, 0);
     }
     Found::Nothing(1)

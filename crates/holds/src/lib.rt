@@ -131,6 +131,22 @@ pub fn all_in_force(b: &[u8], at: usize, n: usize, time: u64) -> bool
     true
 }
 
+// How many of the n holds at a place end after a time.
+pub fn count_in_force(b: &[u8], at: usize, n: usize, time: u64) -> usize
+    requires { ⌜ (at + holdsRoom ≤ length (now b)) × (n ≤ mostHolds) ⌝ }
+    ensures { λ r. ⌜ r ≡ length (only (endsAfter time) (holdsFrom (now (b .entry)) at n)) ⌝ }
+{
+    let mut count = 0;
+    let mut i = 0;
+    while i < n {
+        if ends_at_after(b, at + HOLD * i, time) {
+            count += 1;
+        }
+        i += 1;
+    }
+    count
+}
+
 // Whether one of the n holds at a place is for an address and has not ended at a time.
 pub fn is_held_at(b: &[u8], at: usize, n: usize, time: u64, a: Address) -> bool
     requires { ⌜ (at + holdsRoom ≤ length (now b)) × (n ≤ mostHolds) ⌝ }

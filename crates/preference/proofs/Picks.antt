@@ -4,7 +4,7 @@ use mathlib.Core.Bool.{Bool, true, false, _||_}
 use mathlib.Core.List.{List, [], _∷_, map}
 use mathlib.Core.Option.{Option, none, some}
 use mathlib.Core.Path.{_≡_, refl, sym, ap, _∙_, subst}
-use native.Mathlib.Nat.{suc-ne-zero}
+use native.Mathlib.Nat.{not-suc-le-zero}
 use native.Mathlib.Omega.{arith}
 use lib.Dec.{ltb}
 use lib.ListN.{length, getD, take, drop}
@@ -15,7 +15,7 @@ use Rattle.octets.proofs.Rows.{row-more, row-done, left-more, left-none}
 use Rattle.network.specs.Plmn.{samePlmn, among}
 use Rattle.network.specs.declared.Plmn.{Plmn}
 use Rattle.entry.specs.declared.field.Preferred.{Preferred}
-use Rattle.config.specs.Settings.{listedIn, mostListed, plmnIn}
+use Rattle.config.specs.Settings.{listedIn, plmnIn}
 use Rattle.lists.specs.Lists.{networkAt, networksIn}
 use Rattle.preference.specs.Branch.{whereFound}
 use Rattle.preference.specs.Preference.{better, best, hasPlmns, networkOf, visited, offered}
@@ -92,10 +92,10 @@ module _ (p : Preferred → Bool) (l : List ℕ) (n i : ℕ) (long : n ≤ lengt
     best-same e = from-next ∙ sym (ap best (split x is false inside e))
 
 -- there are records where their count is not 0
-pub some-plmns : (n : ℕ) (l : List ℕ) → length l ≡ mostListed → ltb 0 n ≡ hasPlmns (map listedIn (take n l))
+pub some-plmns : (n : ℕ) (l : List ℕ) → n ≤ length l → ltb 0 n ≡ hasPlmns (map listedIn (take n l))
 unfolding hasPlmns
 some-plmns zero l h = refl
-some-plmns (suc n) [] h = absurd (suc-ne-zero _ (sym h))
+some-plmns (suc n) [] h = absurd (not-suc-le-zero h)
 some-plmns (suc n) (x ∷ l) h = lt-ltb 0 (suc n) (omega arith)
 
 -- at the first record the whole list is behind

@@ -1,6 +1,5 @@
 // What a configuration says of networks.
 use config::Config;
-use config::MOST_LISTED;
 use config::Node;
 use config::list::has_preferred;
 use config::list::listed_in;
@@ -13,7 +12,7 @@ use place::Place;
 ghost use mathlib.Core.List.{map};
 ghost use mathlib.Core.Path.{_≡_};
 ghost use Prim.Native.Nat.{_≤_};
-ghost use lib.ListN.{take};
+ghost use lib.ListN.{length, take};
 ghost use Rattle.octets.specs.Row.{only};
 ghost use Rattle.network.specs.Plmn.{among, plmnOption};
 ghost use Rattle.config.specs.Settings.{listedIn, mostListed, Counted, settingsIn};
@@ -23,18 +22,19 @@ ghost use Rattle.preference.specs.Laws.{Laws};
 ghost use Rattle.preference.specs.Preference.{barred, best, better, eligible, hasPlmns, networkOf, offered, preferred, provisioned, ranked, unranked, visited};
 
 // Whether there is a record among the first n.
-fn has_plmns(list: [u64; MOST_LISTED], n: usize) -> bool
-    ensures { λ r. ⌜ r ≡ hasPlmns (map listedIn (take n list)) ⌝ }
+fn has_plmns(list: &[u64], n: usize) -> bool
+    requires { ⌜ n ≤ length (now list) ⌝ }
+    ensures { λ r. ⌜ r ≡ hasPlmns (map listedIn (take n (now (list .entry)))) ⌝ }
 {
     0 < n
 }
 
 // Whether a configuration has a `node` or a `plmn` record.
-pub fn is_provisioned(config: Config) -> bool
-    ensures { λ r. ⌜ r ≡ provisioned (settingsIn config) ⌝ }
+pub fn is_provisioned(config: Config, plmns: &[u64], bars: &[u64]) -> bool
+    requires { ⌜ Counted (now plmns) (now bars) config ⌝ }
+    ensures { λ r. ⌜ r ≡ provisioned (settingsIn (now (plmns .entry)) (now (bars .entry)) config) ⌝ }
 {
     let node = config.node;
-    let plmns = config.plmns;
     match node {
         Node::None => has_plmns(plmns, config.plmn_count),
         Node::Name { at: _, length: _ } => true,
@@ -43,20 +43,18 @@ pub fn is_provisioned(config: Config) -> bool
 }
 
 // Whether a PLMN is on the forbidden list.
-pub fn is_barred(config: Config, p: Plmn) -> bool
-    requires { ⌜ Counted config ⌝ }
-    ensures { λ r. ⌜ r ≡ barred (settingsIn config) p ⌝ }
+pub fn is_barred(config: Config, plmns: &[u64], bars: &[u64], p: Plmn) -> bool
+    requires { ⌜ Counted (now plmns) (now bars) config ⌝ }
+    ensures { λ r. ⌜ r ≡ barred (settingsIn (now (plmns .entry)) (now (bars .entry)) config) p ⌝ }
 {
-    let bars = config.bars;
     has_preferred(bars, config.bar_count, p)
 }
 
 // Whether a PLMN has a `plmn` record.
-pub fn is_preferred(config: Config, p: Plmn) -> bool
-    requires { ⌜ Counted config ⌝ }
-    ensures { λ r. ⌜ r ≡ preferred (settingsIn config) p ⌝ }
+pub fn is_preferred(config: Config, plmns: &[u64], bars: &[u64], p: Plmn) -> bool
+    requires { ⌜ Counted (now plmns) (now bars) config ⌝ }
+    ensures { λ r. ⌜ r ≡ preferred (settingsIn (now (plmns .entry)) (now (bars .entry)) config) p ⌝ }
 {
-    let plmns = config.plmns;
     has_preferred(plmns, config.plmn_count, p)
 }
 
@@ -97,77 +95,78 @@ fn is_offered(networks: &[u8], place: Place, p: Plmn) -> bool
 }
 
 // Whether the network of a `plmn` record is offered and not barred.
-fn is_eligible(config: Config, networks: &[u8], place: Place, x: Preferred) -> bool
-    requires { ⌜ Counted config ⌝ }
-    ensures { λ r. ⌜ r ≡ eligible (settingsIn config) (networksIn (now (networks .entry))) place x ⌝ }
+fn is_eligible(
+    config: Config,
+    plmns: &[u64],
+    bars: &[u64],
+    networks: &[u8],
+    place: Place,
+    x: Preferred,
+) -> bool
+    requires { ⌜ Counted (now plmns) (now bars) config ⌝ }
+    ensures { λ r. ⌜ r ≡ eligible (settingsIn (now (plmns .entry)) (now (bars .entry)) config) (networksIn (now (networks .entry))) place x ⌝ }
 {
     if !is_offered(networks, place, x.plmn) {
         return false;
     }
-    !is_barred(config, x.plmn)
+    !is_barred(config, plmns, bars, x.plmn)
 }
 
-// The better of a record and the best of those behind it, where one was found.
-fn better_of(x: Preferred, found: bool, top: Preferred) -> Preferred
-    ensures { λ r. ⌜ r ≡ better x (whereFound found top) ⌝ }
+// The better of a record and the best of those behind it, where one was found; records are the numbers that keep them.
+fn better_of(x: u64, found: bool, top: u64) -> u64
+    ensures { λ r. ⌜ listedIn r ≡ better (listedIn x) (whereFound found (listedIn top)) ⌝ }
 {
     if !found {
         return x;
     }
-    if top.priority < x.priority {
+    let first = listed_in(x);
+    let second = listed_in(top);
+    if second.priority < first.priority {
         return top;
     }
     x
 }
 
-// The network of best priority among the first n records that are eligible.
-fn best_of(
-    list: [u64; MOST_LISTED],
-    n: usize,
+// The network of best priority among the records that are eligible.
+pub fn ranked(
     config: Config,
+    plmns: &[u64],
+    bars: &[u64],
     networks: &[u8],
     place: Place,
 ) -> MaybePlmn
-    requires { ⌜ (n ≤ mostListed) × Counted config ⌝ }
-    ensures { λ r. ⌜ plmnOption r ≡ networkOf (best (only (eligible (settingsIn config) (networksIn (now (networks .entry))) place) (map listedIn (take n list)))) ⌝ }
+    requires { ⌜ Counted (now plmns) (now bars) config ⌝ }
+    ensures { λ r. ⌜ plmnOption r ≡ ranked (settingsIn (now (plmns .entry)) (now (bars .entry)) config) (networksIn (now (networks .entry))) place ⌝ }
 {
-    let mut top = listed_in(list[0]);
+    let mut top = 0;
     let mut found = false;
-    let mut i = n;
+    let mut i = config.plmn_count;
     while 0 < i {
         i -= 1;
-        let x = listed_in(list[i]);
-        if is_eligible(config, networks, place, x) {
+        let x = plmns[i];
+        if is_eligible(config, plmns, bars, networks, place, listed_in(x)) {
             top = better_of(x, found, top);
             found = true;
         }
     }
     if found {
-        let p = top.plmn;
+        let best = listed_in(top);
+        let p = best.plmn;
         return MaybePlmn::Is(p);
     }
     MaybePlmn::None
 }
 
-// The network of best priority among those that a country answer offers.
-pub fn ranked(config: Config, networks: &[u8], place: Place) -> MaybePlmn
-    requires { ⌜ Counted config ⌝ }
-    ensures { λ r. ⌜ plmnOption r ≡ ranked (settingsIn config) (networksIn (now (networks .entry))) place ⌝ }
-{
-    let plmns = config.plmns;
-    best_of(plmns, config.plmn_count, config, networks, place)
-}
-
 // The pick where no priority decides.
-pub fn unranked(config: Config, networks: &[u8]) -> MaybePlmn
-    requires { ⌜ Counted config ⌝ }
-    ensures { λ r. ⌜ plmnOption r ≡ unranked (settingsIn config) (networksIn (now (networks .entry))) ⌝ }
+pub fn unranked(config: Config, plmns: &[u64], bars: &[u64], networks: &[u8]) -> MaybePlmn
+    requires { ⌜ Counted (now plmns) (now bars) config ⌝ }
+    ensures { λ r. ⌜ plmnOption r ≡ unranked (settingsIn (now (plmns .entry)) (now (bars .entry)) config) (networksIn (now (networks .entry))) ⌝ }
 {
     let n = networks.len() / 4;
     let mut i = 0;
     while i < n {
         let p = network_at(networks, i);
-        if !is_barred(config, p) {
+        if !is_barred(config, plmns, bars, p) {
             return MaybePlmn::Is(p);
         }
         i += 1;

@@ -63,15 +63,15 @@ module _ (text : List ℕ) where
         (ask-or (ranked s (p ∷ ps) (f .place)) _ (ask-or (unranked s (p ∷ ps)) (Stop 3) tt))
 
 -- a configuration that was read from the text
-module _ (text : List ℕ) (c : Config) (within : Within text c) where
-  name-within : NodeWithin text (settingsIn c .node)
+module _ (text ps bs : List ℕ) (c : Config) (within : Within text ps bs c) where
+  name-within : NodeWithin text (settingsIn ps bs c .node)
   unfolding settingsIn
   name-within = within .name-within
 
   -- what start comes to
-  pub start-within : (f : Facts) (r : Choice) → r ≡ start (settingsIn c) f → TextWithin text r
-  start-within f r e = subst (TextWithin text) (sym e) (of-start text (settingsIn c) name-within f)
+  pub start-within : (f : Facts) (r : Choice) → r ≡ start (settingsIn ps bs c) f → TextWithin text r
+  start-within f r e = subst (TextWithin text) (sym e) (of-start text (settingsIn ps bs c) name-within f)
 
   -- what the country answer comes to
-  pub country-within : (f : Facts) (answer : Option (List Plmn)) (r : Choice) → r ≡ country (settingsIn c) f answer → TextWithin text r
-  country-within f answer r e = subst (TextWithin text) (sym e) (of-country text (settingsIn c) name-within f answer)
+  pub country-within : (f : Facts) (answer : Option (List Plmn)) (r : Choice) → r ≡ country (settingsIn ps bs c) f answer → TextWithin text r
+  country-within f answer r e = subst (TextWithin text) (sym e) (of-country text (settingsIn ps bs c) name-within f answer)

@@ -18,6 +18,7 @@ use children::read_children;
 use holds::HOLD;
 use holds::HOLDS_ROOM;
 use holds::all_in_force;
+use holds::count_in_force;
 use holds::in_force;
 use holds::is_held_at;
 use holds::put_hold;
@@ -42,7 +43,7 @@ ghost use Prim.Native.Nat.{_*_, _≤_, _<_};
 ghost use lib.ListN.{length, take};
 ghost use Rattle.octets.specs.Digits.{be, field};
 ghost use Rattle.octets.specs.Part.{Wrote};
-ghost use Rattle.address.specs.Address.{heldAddresses, mostHolds};
+ghost use Rattle.address.specs.Address.{heldAddresses, mostHolds, stands};
 ghost use Rattle.address.specs.declared.Address.{Address};
 ghost use Rattle.addresses.specs.Addresses.{addressLength};
 ghost use Rattle.children.specs.Children.{hasSpi, mostChildren};
@@ -89,25 +90,6 @@ pub struct Record {
     pub hold_count: usize,
     pub children: [Child; CHILDREN],
     pub child_count: usize,
-}
-
-// The line in a record's octets without its children.
-pub fn read_childless(b: &[u8]) -> Record
-    requires { ⌜ (recordLength ≤ length (now b)) × (field (now b) holdCountPlace 1 ≤ mostHolds) ⌝ }
-    ensures { λ r. ⌜ lineOf r ≡ withChildren (lineFrom (now (b .entry))) [] ⌝ }
-    ensures { λ r. ⌜ InArrays r ⌝ }
-{
-    let hold_count = get(b, HOLD_COUNT_AT, 1) as usize;
-    let holds = read_holds(b, HOLDS_AT, hold_count);
-    let phase = read_phase(b, PHASE_AT);
-    Record {
-        time: get(b, TIME_AT, 4),
-        phase,
-        holds,
-        hold_count,
-        children: [Child { spi: 0, session: 0 }; CHILDREN],
-        child_count: 0,
-    }
 }
 
 // A line of which only the phase is known, and the children: the first n of a list.
@@ -165,6 +147,22 @@ pub fn has_spi_in(b: &[u8], spi: u64) -> bool
     ensures { λ r. ⌜ r ≡ hasSpi spi (lineFrom (now (b .entry)) .children) ⌝ }
 {
     has_spi_at(b, CHILDREN_AT, get(b, CHILD_COUNT_AT, 1) as usize, spi)
+}
+
+// How many holds of the line in a record are in force at a time.
+pub fn in_force_in(b: &[u8], time: u64) -> usize
+    requires { ⌜ (recordLength ≤ length (now b)) × (field (now b) holdCountPlace 1 ≤ mostHolds) ⌝ }
+    ensures { λ r. ⌜ r ≡ length (inForce time (lineFrom (now (b .entry))) .holds) ⌝ }
+{
+    count_in_force(b, HOLDS_AT, get(b, HOLD_COUNT_AT, 1) as usize, time)
+}
+
+// Whether the line in a record holds an address at a time.
+pub fn is_held_in(b: &[u8], time: u64, a: Address) -> bool
+    requires { ⌜ (recordLength ≤ length (now b)) × (field (now b) holdCountPlace 1 ≤ mostHolds) ⌝ }
+    ensures { λ r. ⌜ r ≡ stands a (heldAddresses (inForce time (lineFrom (now (b .entry))) .holds)) ⌝ }
+{
+    is_held_at(b, HOLDS_AT, get(b, HOLD_COUNT_AT, 1) as usize, time, a)
 }
 
 // Which addresses of a lent list the line in a record holds at a time.

@@ -37,8 +37,8 @@ pub enum Choice {
 }
 
 // Whether a place is abroad with the home MCC.
-pub fn is_home_abroad(config: Config, place: Place) -> bool
-    ensures { λ r. ⌜ r ≡ homeAbroad (settingsIn config) place ⌝ }
+pub fn is_home_abroad(config: Config, plmns: &[u64], bars: &[u64], place: Place) -> bool
+    ensures { λ r. ⌜ r ≡ homeAbroad (settingsIn (now (plmns .entry)) (now (bars .entry)) config) place ⌝ }
 {
     match place {
         Place::Unknown => false,
@@ -48,8 +48,8 @@ pub fn is_home_abroad(config: Config, place: Place) -> bool
 }
 
 // The registered PLMN, where it is not the home PLMN.
-fn counting(config: Config, registered: MaybePlmn) -> MaybePlmn
-    ensures { λ r. ⌜ plmnOption r ≡ counting (settingsIn config) (plmnOption registered) ⌝ }
+fn counting(config: Config, plmns: &[u64], bars: &[u64], registered: MaybePlmn) -> MaybePlmn
+    ensures { λ r. ⌜ plmnOption r ≡ counting (settingsIn (now (plmns .entry)) (now (bars .entry)) config) (plmnOption registered) ⌝ }
 {
     match registered {
         MaybePlmn::Is(p) => {
@@ -64,8 +64,8 @@ fn counting(config: Config, registered: MaybePlmn) -> MaybePlmn
 }
 
 // S2: the `node` record decides, or the home PLMN.
-fn at_home(config: Config) -> Choice
-    ensures { λ r. ⌜ r ≡ atHome (settingsIn config) ⌝ }
+fn at_home(config: Config, plmns: &[u64], bars: &[u64]) -> Choice
+    ensures { λ r. ⌜ r ≡ atHome (settingsIn (now (plmns .entry)) (now (bars .entry)) config) ⌝ }
 {
     let node = config.node;
     let home = config.home;
@@ -77,27 +77,27 @@ fn at_home(config: Config) -> Choice
 }
 
 // S3: whether the name of a registered PLMN is asked at once.
-fn is_direct(config: Config, p: Plmn) -> bool
-    requires { ⌜ Counted config ⌝ }
-    ensures { λ r. ⌜ r ≡ direct (settingsIn config) p ⌝ }
+fn is_direct(config: Config, plmns: &[u64], bars: &[u64], p: Plmn) -> bool
+    requires { ⌜ Counted (now plmns) (now bars) config ⌝ }
+    ensures { λ r. ⌜ r ≡ direct (settingsIn (now (plmns .entry)) (now (bars .entry)) config) p ⌝ }
 {
-    if !is_provisioned(config) {
+    if !is_provisioned(config, plmns, bars) {
         return false;
     }
-    if is_barred(config, p) {
+    if is_barred(config, plmns, bars, p) {
         return false;
     }
-    is_preferred(config, p)
+    is_preferred(config, plmns, bars, p)
 }
 
 // S3, and S4 up to its question.
-fn abroad(config: Config, registered: MaybePlmn, mcc: u64) -> Choice
-    requires { ⌜ Counted config ⌝ }
-    ensures { λ r. ⌜ r ≡ abroad (settingsIn config) (plmnOption registered) mcc ⌝ }
+fn abroad(config: Config, plmns: &[u64], bars: &[u64], registered: MaybePlmn, mcc: u64) -> Choice
+    requires { ⌜ Counted (now plmns) (now bars) config ⌝ }
+    ensures { λ r. ⌜ r ≡ abroad (settingsIn (now (plmns .entry)) (now (bars .entry)) config) (plmnOption registered) mcc ⌝ }
 {
     match registered {
         MaybePlmn::Is(p) => {
-            if is_direct(config, p) {
+            if is_direct(config, plmns, bars, p) {
                 Choice::Network(p)
             } else {
                 Choice::Country(mcc)
@@ -108,23 +108,35 @@ fn abroad(config: Config, registered: MaybePlmn, mcc: u64) -> Choice
 }
 
 // What start comes to.
-pub fn start(config: Config, facts: Facts) -> Choice
-    requires { ⌜ Counted config ⌝ }
-    ensures { λ r. ⌜ r ≡ start (settingsIn config) facts ⌝ }
+pub fn start(config: Config, plmns: &[u64], bars: &[u64], facts: Facts) -> Choice
+    requires { ⌜ Counted (now plmns) (now bars) config ⌝ }
+    ensures { λ r. ⌜ r ≡ start (settingsIn (now (plmns .entry)) (now (bars .entry)) config) facts ⌝ }
 {
     let place = facts.place;
     let registered = facts.registered;
     match place {
         Place::Unknown => Choice::Stop(1),
-        Place::Home => at_home(config),
-        Place::Abroad(mcc) => abroad(config, counting(config, registered), mcc),
+        Place::Home => at_home(config, plmns, bars),
+        Place::Abroad(mcc) => abroad(
+            config,
+            plmns,
+            bars,
+            counting(config, plmns, bars, registered),
+            mcc,
+        ),
     }
 }
 
 // The registered PLMN, where it is listed and not barred.
-fn if_listed(config: Config, registered: MaybePlmn, networks: &[u8]) -> MaybePlmn
-    requires { ⌜ Counted config ⌝ }
-    ensures { λ r. ⌜ plmnOption r ≡ ifListed (settingsIn config) (plmnOption registered) (networksIn (now (networks .entry))) ⌝ }
+fn if_listed(
+    config: Config,
+    plmns: &[u64],
+    bars: &[u64],
+    registered: MaybePlmn,
+    networks: &[u8],
+) -> MaybePlmn
+    requires { ⌜ Counted (now plmns) (now bars) config ⌝ }
+    ensures { λ r. ⌜ plmnOption r ≡ ifListed (settingsIn (now (plmns .entry)) (now (bars .entry)) config) (plmnOption registered) (networksIn (now (networks .entry))) ⌝ }
 {
     let MaybePlmn::Is(plmn) = registered else {
         return MaybePlmn::None;
@@ -132,7 +144,7 @@ fn if_listed(config: Config, registered: MaybePlmn, networks: &[u8]) -> MaybePlm
     if !is_listed(networks, plmn) {
         return MaybePlmn::None;
     }
-    if is_barred(config, plmn) {
+    if is_barred(config, plmns, bars, plmn) {
         return MaybePlmn::None;
     }
     MaybePlmn::Is(plmn)
@@ -149,41 +161,59 @@ fn ask_or(network: MaybePlmn, other: Choice) -> Choice
 }
 
 // S4 where one or more networks are listed.
-fn one_or_more(config: Config, facts: Facts, networks: &[u8]) -> Choice
-    requires { ⌜ Counted config ⌝ }
-    ensures { λ r. ⌜ r ≡ oneOrMore (settingsIn config) facts (networksIn (now (networks .entry))) ⌝ }
+fn one_or_more(config: Config, plmns: &[u64], bars: &[u64], facts: Facts, networks: &[u8]) -> Choice
+    requires { ⌜ Counted (now plmns) (now bars) config ⌝ }
+    ensures { λ r. ⌜ r ≡ oneOrMore (settingsIn (now (plmns .entry)) (now (bars .entry)) config) facts (networksIn (now (networks .entry))) ⌝ }
 {
     let place = facts.place;
     let registered = facts.registered;
-    let first = ask_or(unranked(config, networks), Choice::Stop(3));
-    let best = ask_or(ranked(config, networks, place), first);
-    ask_or(
-        if_listed(config, counting(config, registered), networks),
-        best,
-    )
+    let listed = if_listed(
+        config,
+        plmns,
+        bars,
+        counting(config, plmns, bars, registered),
+        networks,
+    );
+    if let MaybePlmn::Is(p) = listed {
+        return Choice::Network(p);
+    }
+    if let MaybePlmn::Is(p) = ranked(config, plmns, bars, networks, place) {
+        return Choice::Network(p);
+    }
+    ask_or(unranked(config, plmns, bars, networks), Choice::Stop(3))
 }
 
 // S4 where no network is listed.
-fn none_listed(config: Config, place: Place, networks: &[u8]) -> Choice
-    requires { ⌜ Counted config ⌝ }
-    ensures { λ r. ⌜ r ≡ askOr (ranked (settingsIn config) (networksIn (now (networks .entry))) place) (atHome (settingsIn config)) ⌝ }
+fn none_listed(config: Config, plmns: &[u64], bars: &[u64], place: Place, networks: &[u8]) -> Choice
+    requires { ⌜ Counted (now plmns) (now bars) config ⌝ }
+    ensures { λ r. ⌜ r ≡ askOr (ranked (settingsIn (now (plmns .entry)) (now (bars .entry)) config) (networksIn (now (networks .entry))) place) (atHome (settingsIn (now (plmns .entry)) (now (bars .entry)) config)) ⌝ }
 {
-    ask_or(ranked(config, networks, place), at_home(config))
+    ask_or(
+        ranked(config, plmns, bars, networks, place),
+        at_home(config, plmns, bars),
+    )
 }
 
 // What the country answer comes to.
-pub fn country(config: Config, facts: Facts, replied: bool, networks: &[u8]) -> Choice
-    requires { ⌜ Counted config ⌝ }
-    ensures { λ r. ⌜ r ≡ country (settingsIn config) facts (countryReply replied (networksIn (now (networks .entry)))) ⌝ }
+pub fn country(
+    config: Config,
+    plmns: &[u64],
+    bars: &[u64],
+    facts: Facts,
+    replied: bool,
+    networks: &[u8],
+) -> Choice
+    requires { ⌜ Counted (now plmns) (now bars) config ⌝ }
+    ensures { λ r. ⌜ r ≡ country (settingsIn (now (plmns .entry)) (now (bars .entry)) config) facts (countryReply replied (networksIn (now (networks .entry)))) ⌝ }
 {
     if !replied {
         return Choice::Stop(2);
     }
     if networks.len() < 4 {
         let place = facts.place;
-        return none_listed(config, place, networks);
+        return none_listed(config, plmns, bars, place, networks);
     }
-    one_or_more(config, facts, networks)
+    one_or_more(config, plmns, bars, facts, networks)
 }
 
 // Does nothing; its promise is the claim `stops-exactly`.

@@ -1,4 +1,5 @@
 // The table of records.
+use address::Address;
 use address::End;
 use children::CHILDREN;
 use children::Child;
@@ -8,20 +9,23 @@ use octets::slice::part;
 use octets::slice::zero;
 use octets::slice::zeros_at;
 use phase::Phase;
+use phase::codec::read_phase;
 use record::PAIRS;
+use record::PHASE_AT;
 use record::RECORD;
 use record::Record;
 use record::TIME_AT;
 use record::child_count_in;
 use record::has_spi_in;
 use record::held_in;
+use record::in_force_in;
+use record::is_held_in;
 use record::keep;
 use record::keep_child;
 use record::keep_hold;
 use record::keep_standing;
 use record::keep_tunnels;
 use record::put_fresh;
-use record::read_childless;
 use record::read_unheld;
 use record::read_unlisted;
 use record::sound::is_record;
@@ -34,7 +38,7 @@ ghost use lib.ListN.{length, take};
 ghost use Rattle.octets.specs.Digits.{field};
 ghost use Rattle.octets.specs.Part.{zeros, Wrote};
 ghost use Rattle.octets.specs.Search.{least};
-ghost use Rattle.address.specs.Address.{heldAddresses};
+ghost use Rattle.address.specs.Address.{heldAddresses, stands};
 ghost use Rattle.address.specs.declared.Address.{Address};
 ghost use Rattle.addresses.specs.Addresses.{addressLength};
 ghost use Rattle.children.specs.Children.{hasSpi, mostChildren};
@@ -138,15 +142,6 @@ pub fn is_sound(table: &[u8]) -> bool
     true
 }
 
-// The line of a used record without its children.
-pub fn childless_at(table: &[u8], i: usize) -> Record
-    requires { ⌜ UsedAt (now table) i ⌝ }
-    ensures { λ r. ⌜ lineOf r ≡ withChildren (lineFrom (slot (now (table .entry)) i)) [] ⌝ }
-    ensures { λ r. ⌜ InArrays r ⌝ }
-{
-    read_childless(part(table, RECORD * i, RECORD))
-}
-
 // The line of a used record, of which only the bare phase is known.
 pub fn unlisted_at(table: &[u8], i: usize) -> Record
     requires { ⌜ UsedAt (now table) i ⌝ }
@@ -154,6 +149,14 @@ pub fn unlisted_at(table: &[u8], i: usize) -> Record
     ensures { λ r. ⌜ InArrays r ⌝ }
 {
     read_unlisted(part(table, RECORD * i, RECORD))
+}
+
+// The phase of the line of a used record.
+pub fn phase_at(table: &[u8], i: usize) -> Phase
+    requires { ⌜ UsedAt (now table) i ⌝ }
+    ensures { λ r. ⌜ r ≡ lineFrom (slot (now (table .entry)) i) .phase ⌝ }
+{
+    read_phase(part(table, RECORD * i, RECORD), PHASE_AT)
 }
 
 // The line of a used record, of which only the bare phase and the children are known.
@@ -179,6 +182,22 @@ pub fn has_spi_at(table: &[u8], i: usize, spi: u64) -> bool
     ensures { λ r. ⌜ r ≡ hasSpi spi (lineFrom (slot (now (table .entry)) i) .children) ⌝ }
 {
     has_spi_in(part(table, RECORD * i, RECORD), spi)
+}
+
+// How many holds of the line of a used record are in force at a time.
+pub fn in_force_at(table: &[u8], i: usize, time: u64) -> usize
+    requires { ⌜ UsedAt (now table) i ⌝ }
+    ensures { λ r. ⌜ r ≡ length (inForce time (lineFrom (slot (now (table .entry)) i)) .holds) ⌝ }
+{
+    in_force_in(part(table, RECORD * i, RECORD), time)
+}
+
+// Whether the line of a used record holds an address at a time.
+pub fn is_held_at(table: &[u8], i: usize, time: u64, a: Address) -> bool
+    requires { ⌜ UsedAt (now table) i ⌝ }
+    ensures { λ r. ⌜ r ≡ stands a (heldAddresses (inForce time (lineFrom (slot (now (table .entry)) i)) .holds)) ⌝ }
+{
+    is_held_in(part(table, RECORD * i, RECORD), time, a)
 }
 
 // Which addresses of a lent list the line of a used record holds at a time.

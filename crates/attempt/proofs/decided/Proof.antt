@@ -11,7 +11,7 @@ build-requires c κs = search needs
 asked-requires : tie.Need-asked-requires
 asked-requires c κs =
     let start = c .before .before .before .before .before .before .before in
-    lies _ _ _ _ _ (start .pre .1) (c .before .before .before .build .ensures) (search needs)
+    lies _ _ _ _ _ (start .pre .0) (c .before .before .before .build .ensures) (search needs)
 
 enum-known-choice : tie.Need-enum-known-choice
 enum-known-choice c = search needs
@@ -42,7 +42,7 @@ returns c =
     let asked = c .before .before .before in
     let start = asked .before .before .before .before .before .before .before .before in
     let build = asked .before .before .before .before .build in
-    λ x held. says x _ _ _ _ _ _ _ (start .pre .1) (build .ensures) (search needs) (stops x _ _ _ _ (c .before .choice .given .1))
+    λ x held. says x _ _ _ _ _ _ _ (start .pre .0) (build .ensures) (search needs) (stops x _ _ _ _ (c .before .choice .given .1))
 
 same-length-2 : tie.Need-same-length-2
 same-length-2 c = search needs
@@ -52,7 +52,7 @@ returns-2 c =
     let asked = c .before .before in
     let start = asked .before .before .before .before .before .before .before .before in
     let build = asked .before .before .before .before .build in
-    λ x held. says x _ _ _ _ _ _ _ (start .pre .1) (build .ensures) (search needs) (asks-country x _ _ _ _ (asked .asked .ensures) _ (c .enum-told .given .1))
+    λ x held. says x _ _ _ _ _ _ _ (start .pre .0) (build .ensures) (search needs) (asks-country x _ _ _ _ (asked .asked .ensures) _ (c .enum-told .given .1))
 
 same-length-3 : tie.Need-same-length-3
 same-length-3 c = search needs
@@ -62,7 +62,7 @@ returns-3 c =
     let asked = c .before .before .before in
     let start = asked .before .before .before .before .before .before .before .before in
     let build = asked .before .before .before .before .build in
-    λ x held. says x _ _ _ _ _ _ _ (start .pre .1) (build .ensures) (search needs) (asks-text x _ _ _ _ (asked .asked .ensures) _ _ (c .before .choice2 .given .1) (start .pre .1))
+    λ x held. says x _ _ _ _ _ _ _ (start .pre .0) (build .ensures) (search needs) (asks-text x _ _ _ _ (asked .asked .ensures) _ _ (c .before .choice2 .given .1) (start .pre .0))
 
 same-length-4 : tie.Need-same-length-4
 same-length-4 c = search needs
@@ -72,7 +72,7 @@ returns-4 c =
     let asked = c .before .before in
     let start = asked .before .before .before .before .before .before .before .before in
     let build = asked .before .before .before .before .build in
-    λ x held. says x _ _ _ _ _ _ _ (start .pre .1) (build .ensures) (search needs) (asks-built x _ _ _ _ (asked .asked .ensures) _ (c .enum-told2 .given .1))
+    λ x held. says x _ _ _ _ _ _ _ (start .pre .0) (build .ensures) (search needs) (asks-built x _ _ _ _ (asked .asked .ensures) _ (c .enum-told2 .given .1))
 
 same-length-5 : tie.Need-same-length-5
 same-length-5 c = search needs
@@ -82,8 +82,8 @@ returns-5 c =
     let asked = c .before .before .before .before .before in
     let start = asked .before .before .before .before .before .before .before .before in
     let build = asked .before .before .before .before .build in
-    λ x held. says x _ _ _ _ _ _ _ (start .pre .1) (build .ensures) (search needs)
-    (answers-one x _ _ _ _ held _ (c .before .before .before .choice3 .given .1) _ (c .before .choose-one .ensures) _ (c .gateway-found .ensures))
+    λ x held. says x _ _ _ _ _ _ _ (start .pre .0) (build .ensures) (search needs)
+    (answers-one x _ _ _ _ (c .before .before .before .choice3 .given .1) _ (c .before .choose-one .ensures _ (held _ (c .before .before .before .choice3 .given .1))) _ (c .gateway-found .ensures))
 
 pub decided-spec : {M : Type 1} → statement M
 decided-spec =

@@ -1,22 +1,22 @@
 -- `gateway::choose` meets its contract: for every list of held addresses that the array tells of, the addresses passed are not permitted, so
 -- the place found among all is found among those that are left.
 use Prim.Native.Nat.{ℕ, _+_, _-_, _≤_, _<_}
-use mathlib.Core.Bool.{Bool, true, false, not, _&&_}
+use mathlib.Core.Bool.{true, false}
 use mathlib.Core.List.{List}
-use mathlib.Core.Path.{_≡_, sym, ap, ap₂, _∙_}
+use mathlib.Core.Path.{_≡_, _∙_}
 use native.Mathlib.Nat.{zero-add, sub-zero}
 use native.Mathlib.Omega.{arith}
 use denote.Ref.{now}
-use lib.Dec.{eqb}
 use borrow.Author.Needs.{needs}
 use Rattle.octets.specs.Row.{row, place}
 use Rattle.octets.proofs.Rows.{drop-row, row-more, row-done, place-more, place-here, place-none}
-use Rattle.address.specs.Address.{permitted, stands, versionOf}
+use Rattle.address.specs.Address.{permitted}
 use Rattle.address.specs.declared.Address.{Address}
 use Rattle.lists.specs.Held.{HeldAre}
 use Rattle.lists.specs.Lists.{addressAt, addressesIn}
 use Rattle.gateway.specs.declared.Found.the-variants.{Chosen, Nothing}
 use Rattle.gateway.specs.Gateway.{choose, foundAt}
+use Rattle.gateway.proofs.Told.{told}
 use Rattle.gateway.proofs.choose.Statement.{statement}
 use Rattle.gateway.proofs.choose.Tie as tie
 
@@ -33,11 +33,6 @@ Inv-loop list local held count i₀ i = (i ≤ count) × ((hs : List Address) �
 
 abbrev μ-loop : tie.MeasureT-loop
 μ-loop list local held count i₀ i = count - i
-
--- the test of the version and of what is told is that of the definition
-told : (local : ℕ) (held : List Address) (a b : Address) (v : ℕ) (t u : Bool) → v ≡ versionOf a → a ≡ b → t ≡ stands b held → eqb v local && not t ≡ u → permitted local held b ≡ u
-unfolding permitted
-told local held a b v t u of e s test = sym (ap₂ (λ (w : ℕ) (x : Bool). eqb w local && not x) (of ∙ ap versionOf e) s) ∙ test
 
 module _ (local : ℕ) (held : List Address) (f : ℕ → Address) (i n : ℕ) (left : found local held f n ≡ foundFrom local held f n i) where
   -- the next address is permitted

@@ -16,7 +16,7 @@ is-offered-requires c κs = search needs
 returns : tie.Need-returns
 unfolding eligible plmnIn
 returns c =
-    let a = c .before .before .before .args in
+    let a = c .before .before .before .before .before .args in
     let no-offer : offered (networksIn (now (a .networks))) (a .place) (a .x .plmn) ≡ false = sym (c .before .is-offered .ensures) ∙ not-true _ (c .if1 .taken) in
     sym (rw no-offer)
 
@@ -26,7 +26,7 @@ is-barred-requires c κs = search needs
 returns-2 : tie.Need-returns-2
 unfolding eligible unbarred plmnIn
 returns-2 c =
-    let a = c .before .before .before .before .args in
+    let a = c .before .before .before .before .before .before .args in
     let offer : offered (networksIn (now (a .networks))) (a .place) (a .x .plmn) ≡ true = sym (c .before .before .is-offered .ensures) ∙ not-false _ (c .before .if1 .left) in
     rw offer (ap not (c .is-barred .ensures))
 

@@ -18,17 +18,17 @@ use Rattle.preference.proofs.unranked.Statement.{statement}
 use Rattle.preference.proofs.unranked.Tie as tie
 
 abbrev Inv-loop : tie.InvT-loop
-Inv-loop config networks n i₀ i = (i ≤ n) × (unranked (settingsIn config) (networksIn networks) ≡ first (unbarred (settingsIn config)) (row (networkAt networks) i (n - i)))
+Inv-loop config plmns bars networks n i₀ i = (i ≤ n) × (unranked (settingsIn plmns bars config) (networksIn networks) ≡ first (unbarred (settingsIn plmns bars config)) (row (networkAt networks) i (n - i)))
 
 abbrev μ-loop : tie.MeasureT-loop
-μ-loop config networks n i₀ i = n - i
+μ-loop config plmns bars networks n i₀ i = n - i
 
 loop-holds : tie.Need-loop-holds Inv-loop μ-loop
 unfolding networksIn unranked
 loop-holds c =
-    let a = c .before .args in
+    let a = c .before .before .before .args in
     let l = now (a .networks) in
-    (search needs, ap (λ (k : ℕ). first (unbarred (settingsIn (a .config))) (row (networkAt l) 0 k)) (sym (sub-zero (length l / 4))))
+    (search needs, ap (λ (k : ℕ). first (unbarred (settingsIn (now (a .plmns)) (now (a .bars)) (a .config))) (row (networkAt l) 0 k)) (sym (sub-zero (length l / 4))))
 
 network-at-requires : tie.Need-network-at-requires Inv-loop μ-loop
 network-at-requires c κs = omega arith
@@ -39,9 +39,9 @@ is-barred-requires c κs = search needs
 returns : tie.Need-returns Inv-loop μ-loop
 unfolding plmnOption unbarred
 returns c =
-    let a = c .before .before .before .before .before .before .args in
+    let a = c .before .before .before .before .before .before .before .before .args in
     let l = now (a .networks) in
-    let s = settingsIn (a .config) in
+    let s = settingsIn (now (a .plmns)) (now (a .bars)) (a .config) in
     let at-loop = c .before .before .before .before .loop in
     let here = c .before .before .network-at .ensures in
     let free : unbarred s (networkAt l (at-loop .i)) ≡ true = sym (ap (unbarred s) here) ∙ sym (ap not (c .before .is-barred .ensures)) ∙ c .if1 .taken in
@@ -56,9 +56,9 @@ loop-less c = search needs
 loop-again : tie.Need-loop-again Inv-loop μ-loop
 unfolding unbarred
 loop-again c =
-    let a = c .before .before .before .before .before .before .args in
+    let a = c .before .before .before .before .before .before .before .before .args in
     let l = now (a .networks) in
-    let s = settingsIn (a .config) in
+    let s = settingsIn (now (a .plmns)) (now (a .bars)) (a .config) in
     let at-loop = c .before .before .before .before .loop in
     let here = c .before .before .network-at .ensures in
     let taken-out : unbarred s (networkAt l (at-loop .i)) ≡ false = sym (ap (unbarred s) here) ∙ sym (ap not (c .before .is-barred .ensures)) ∙ c .if1 .left in
@@ -67,9 +67,9 @@ loop-again c =
 returns-2 : tie.Need-returns-2 Inv-loop μ-loop
 unfolding plmnOption
 returns-2 c =
-    let a = c .before .before .before .args in
+    let a = c .before .before .before .before .before .args in
     let l = now (a .networks) in
-    sym (c .before .loop .inv .1 ∙ first-none (networkAt l) (unbarred (settingsIn (a .config))) (c .before .loop .i) (length l / 4) (c .loop-test .left))
+    sym (c .before .loop .inv .1 ∙ first-none (networkAt l) (unbarred (settingsIn (now (a .plmns)) (now (a .bars)) (a .config))) (c .before .loop .i) (length l / 4) (c .loop-test .left))
 
 pub unranked-spec : {M : Type 1} → statement M
 unranked-spec =

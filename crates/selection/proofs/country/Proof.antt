@@ -15,7 +15,7 @@ use Rattle.selection.proofs.country.Tie as tie
 returns : tie.Need-returns
 unfolding countryReply country
 returns c =
-    let unreplied : c .before .before .args .replied ≡ false = not-true _ (c .if1 .taken) in
+    let unreplied : c .before .before .before .before .args .replied ≡ false = not-true _ (c .if1 .taken) in
     sym (rw unreplied)
 
 none-listed-requires : tie.Need-none-listed-requires
@@ -24,10 +24,10 @@ none-listed-requires c κs = search needs
 returns-2 : tie.Need-returns-2
 unfolding countryReply
 returns-2 c =
-    let a = c .before .before .before .before .args in
+    let a = c .before .before .before .before .before .before .args in
     let l = now (a .networks) in
     let replied : a .replied ≡ true = not-false _ (c .before .before .if1 .left) in
-    c .none-listed .ensures ∙ rw replied (none-is (settingsIn (a .config)) (a .facts) (networksIn l) (no-network l (c .before .if2 .taken)))
+    c .none-listed .ensures ∙ rw replied (none-is (settingsIn (now (a .plmns)) (now (a .bars)) (a .config)) (a .facts) (networksIn l) (no-network l (c .before .if2 .taken)))
 
 one-or-more-requires : tie.Need-one-or-more-requires
 one-or-more-requires c κs = search needs
@@ -35,11 +35,11 @@ one-or-more-requires c κs = search needs
 returns-3 : tie.Need-returns-3
 unfolding countryReply
 returns-3 c =
-    let a = c .before .before .before .before .args in
+    let a = c .before .before .before .before .before .before .args in
     let l = now (a .networks) in
     let replied : a .replied ≡ true = not-false _ (c .before .before .if1 .left) in
     let listed = some-network l (c .before .if2 .left) in
-    c .one-or-more .ensures ∙ rw replied (more-are (settingsIn (a .config)) (a .facts) (networksIn l) (listed .0) (listed .1) (listed .2))
+    c .one-or-more .ensures ∙ rw replied (more-are (settingsIn (now (a .plmns)) (now (a .bars)) (a .config)) (a .facts) (networksIn l) (listed .0) (listed .1) (listed .2))
 
 pub country-spec : {M : Type 1} → statement M
 country-spec =

@@ -29,8 +29,8 @@ is-listed-requires c κs = search needs
 returns-2 : tie.Need-returns-2
 unfolding plmnOption
 returns-2 c =
-    let a = c .before .before .before .before .before .before .args in
-    not-listed _ _ _ (sym (c .before .is-listed .ensures) ∙ not-true _ (c .if1 .taken)) ∙ sym (ap (λ (o : Option Plmn). ifListed (settingsIn (a .config)) o (networksIn (now (a .networks)))) (ap plmnOption (c .before .before .before .registered .given .1)))
+    let a = c .before .before .before .before .before .before .before .before .args in
+    not-listed _ _ _ (sym (c .before .is-listed .ensures) ∙ not-true _ (c .if1 .taken)) ∙ sym (ap (λ (o : Option Plmn). ifListed (settingsIn (now (a .plmns)) (now (a .bars)) (a .config)) o (networksIn (now (a .networks)))) (ap plmnOption (c .before .before .before .registered .given .1)))
 
 is-barred-requires : tie.Need-is-barred-requires
 is-barred-requires c κs = search needs
@@ -38,16 +38,16 @@ is-barred-requires c κs = search needs
 returns-3 : tie.Need-returns-3
 unfolding plmnOption
 returns-3 c =
-    let a = c .before .before .before .before .before .before .before .before .args in
+    let a = c .before .before .before .before .before .before .before .before .before .before .args in
     listed-barred _ _ _ (sym (c .before .before .before .is-listed .ensures) ∙ not-false _ (c .before .before .if1 .left)) (sym (c .before .is-barred .ensures) ∙ c .if2 .taken)
-    ∙ sym (ap (λ (o : Option Plmn). ifListed (settingsIn (a .config)) o (networksIn (now (a .networks)))) (ap plmnOption (c .before .before .before .before .before .registered .given .1)))
+    ∙ sym (ap (λ (o : Option Plmn). ifListed (settingsIn (now (a .plmns)) (now (a .bars)) (a .config)) o (networksIn (now (a .networks)))) (ap plmnOption (c .before .before .before .before .before .registered .given .1)))
 
 returns-4 : tie.Need-returns-4
 unfolding plmnOption
 returns-4 c =
-    let a = c .before .before .before .before .before .before .before .before .args in
+    let a = c .before .before .before .before .before .before .before .before .before .before .args in
     listed-free _ _ _ (sym (c .before .before .before .is-listed .ensures) ∙ not-false _ (c .before .before .if1 .left)) (sym (c .before .is-barred .ensures) ∙ c .if2 .left)
-    ∙ sym (ap (λ (o : Option Plmn). ifListed (settingsIn (a .config)) o (networksIn (now (a .networks)))) (ap plmnOption (c .before .before .before .before .before .registered .given .1)))
+    ∙ sym (ap (λ (o : Option Plmn). ifListed (settingsIn (now (a .plmns)) (now (a .bars)) (a .config)) o (networksIn (now (a .networks)))) (ap plmnOption (c .before .before .before .before .before .registered .given .1)))
 
 pub if-listed-spec : {M : Type 1} → statement M
 if-listed-spec =

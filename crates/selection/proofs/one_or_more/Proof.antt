@@ -1,27 +1,40 @@
 -- `selection::one_or_more` meets its contract: each network comes before the next.
-use mathlib.Core.Option.{Option}
-use mathlib.Core.Path.{ap, ap₂, _∙_}
+use mathlib.Core.List.{List}
+use mathlib.Core.Option.{Option, none, some}
+use mathlib.Core.Path.{_≡_, sym, ap, _∙_}
 use denote.Ref.{now}
 use borrow.Author.Needs.{needs}
-use Rattle.config.specs.Settings.{settingsIn}
+use Rattle.config.specs.Settings.{settingsIn, Settings}
 use Rattle.lists.specs.Lists.{networksIn}
+use Rattle.network.specs.Plmn.{plmnOption}
+use Rattle.network.specs.declared.MaybePlmn.{MaybePlmn}
+use Rattle.network.specs.declared.MaybePlmn.the-variants.{Is, None}
 use Rattle.network.specs.declared.Plmn.{Plmn}
-use Rattle.selection.specs.declared.Choice.the-variants.{Stop}
-use Rattle.selection.specs.Selection.{askOr, ifListed, oneOrMore, registered}
+use Rattle.place.specs.declared.Facts.{Facts}
+use Rattle.preference.specs.Preference.{ranked, unranked}
+use Rattle.selection.specs.declared.Choice.the-variants.{Network, Stop}
+use Rattle.selection.specs.Selection.{askOr, counting, ifListed, oneOrMore, registered}
 use Rattle.selection.proofs.one_or_more.Statement.{statement}
 use Rattle.selection.proofs.one_or_more.Tie as tie
 
-unranked-requires : tie.Need-unranked-requires
-unranked-requires c κs = search needs
+-- what was found, in their order
+module _ (s : Settings) (f : Facts) (ps : List Plmn) (q r : MaybePlmn) (counts : plmnOption q ≡ counting s (plmnOption (f .registered))) (one : plmnOption r ≡ ifListed s (plmnOption q) ps) where
+  said : (x : MaybePlmn) → r ≡ x → ifListed s (registered s f) ps ≡ plmnOption x
+  unfolding registered
+  said x e = ap (λ (o : Option Plmn). ifListed s o ps) (sym counts) ∙ sym one ∙ ap plmnOption e
 
-ask-or-requires : tie.Need-ask-or-requires
-ask-or-requires c κs = search needs
+  registered-first : (p : Plmn) → r ≡ Is p → Network p ≡ oneOrMore s f ps
+  unfolding oneOrMore askOr plmnOption
+  registered-first p e = sym (rw (said (Is p) e))
 
-ranked-requires : tie.Need-ranked-requires
-ranked-requires c κs = search needs
+  module _ (not-registered : r ≡ None) (b : MaybePlmn) (best : plmnOption b ≡ ranked s ps (f .place)) where
+    best-second : (p : Plmn) → b ≡ Is p → Network p ≡ oneOrMore s f ps
+    unfolding oneOrMore askOr plmnOption
+    best-second p e = sym (rw (said None not-registered, sym best ∙ ap plmnOption e))
 
-ask-or-requires-2 : tie.Need-ask-or-requires-2
-ask-or-requires-2 c κs = search needs
+    any-third : b ≡ None → askOr (unranked s ps) (Stop 3) ≡ oneOrMore s f ps
+    unfolding oneOrMore askOr plmnOption
+    any-third e = sym (rw (said None not-registered, sym best ∙ ap plmnOption e))
 
 counting-requires : tie.Need-counting-requires
 counting-requires c κs = search needs
@@ -29,27 +42,56 @@ counting-requires c κs = search needs
 if-listed-requires : tie.Need-if-listed-requires
 if-listed-requires c κs = search needs
 
-ask-or-requires-3 : tie.Need-ask-or-requires-3
-ask-or-requires-3 c κs = search needs
+enum-known-listed : tie.Need-enum-known-listed
+enum-known-listed c = search needs
 
 returns : tie.Need-returns
-unfolding oneOrMore registered
 returns c =
-    let a = c .before .before .before .before .before .before .before .before .args in
-    let first = c .before .before .before .before .before .ask-or .ensures ∙ ap (λ (o : Option Plmn). askOr o (Stop 3)) (c .before .before .before .before .before .before .unranked .ensures) in
-    let best = c .before .before .before .ask-or2 .ensures ∙ ap₂ askOr (c .before .before .before .before .ranked .ensures) first in
-    let one = c .before .if-listed .ensures ∙ ap (λ (o : Option Plmn). ifListed (settingsIn (a .config)) o (networksIn (now (a .networks)))) (c .before .before .counting .ensures) in
-    c .ask-or3 .ensures ∙ ap₂ askOr one best
+    let called = c .before .before .before in
+    registered-first _ _ _ _ _ (called .before .counting .ensures) (called .if-listed .ensures) _ (c .before .listed .given .1)
+
+enum-told : tie.Need-enum-told
+enum-told c = search needs
+
+ranked-requires : tie.Need-ranked-requires
+ranked-requires c κs = search needs
+
+enum-known-p : tie.Need-enum-known-p
+enum-known-p c = search needs
+
+returns-2 : tie.Need-returns-2
+returns-2 c =
+    let called = c .before .before .before .before .before .before in
+    best-second _ _ _ _ _ (called .before .counting .ensures) (called .if-listed .ensures) (c .before .before .before .before .enum-told .given .1) _ (c .before .before .before .ranked .ensures) _ (c .before .p .given .1)
+
+enum-told-2 : tie.Need-enum-told-2
+enum-told-2 c = search needs
+
+unranked-requires : tie.Need-unranked-requires
+unranked-requires c κs = search needs
+
+ask-or-requires : tie.Need-ask-or-requires
+ask-or-requires c κs = search needs
+
+returns-3 : tie.Need-returns-3
+returns-3 c =
+    let called = c .before .before .before .before .before .before .before in
+    c .ask-or .ensures ∙ ap (λ (o : Option Plmn). askOr o (Stop 3)) (c .before .unranked .ensures)
+    ∙ any-third _ _ _ _ _ (called .before .counting .ensures) (called .if-listed .ensures) (c .before .before .before .before .before .enum-told .given .1) _ (c .before .before .before .before .ranked .ensures) (c .before .before .enum-told2 .given .1)
 
 pub one-or-more-spec : {M : Type 1} → statement M
 one-or-more-spec =
     tie.close
     (tie.spec
-    unranked-requires
-    ask-or-requires
-    ranked-requires
-    ask-or-requires-2
     counting-requires
     if-listed-requires
-    ask-or-requires-3
-    returns)
+    enum-known-listed
+    returns
+    enum-told
+    ranked-requires
+    enum-known-p
+    returns-2
+    enum-told-2
+    unranked-requires
+    ask-or-requires
+    returns-3)

@@ -1,6 +1,7 @@
 -- `selection::start` meets its contract: the place picks the case.
 use mathlib.Core.Option.{Option}
 use mathlib.Core.Path.{sym, ap, _∙_}
+use denote.Ref.{now}
 use borrow.Author.Needs.{needs}
 use Rattle.config.specs.Settings.{settingsIn}
 use Rattle.network.specs.declared.Plmn.{Plmn}
@@ -36,7 +37,7 @@ returns-2 c = rw (c .before .enum-told2 .given .1) (c .at-home .ensures)
 
 returns-3 : tie.Need-returns-3
 unfolding start startAt registered
-returns-3 c = rw (c .before .before .before .place .given .1) (c .abroad .ensures ∙ ap (λ (o : Option Plmn). abroad (settingsIn (c .before .before .before .before .before .args .config)) o (c .before .before .before .place .given .0 .0)) (c .before .counting .ensures))
+returns-3 c = rw (c .before .before .before .place .given .1) (c .abroad .ensures ∙ ap (λ (o : Option Plmn). abroad (settingsIn (now (c .before .before .before .before .before .before .before .args .plmns)) (now (c .before .before .before .before .before .before .before .args .bars)) (c .before .before .before .before .before .before .before .args .config)) o (c .before .before .before .place .given .0 .0)) (c .before .counting .ensures))
 
 pub start-spec : {M : Type 1} → statement M
 start-spec =

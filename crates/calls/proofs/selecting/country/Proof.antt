@@ -1,14 +1,36 @@
 -- `calls::selecting::country` meets its contract.
-use mathlib.Core.Path.{refl}
+use Prim.Native.Nat.{ℕ}
+use mathlib.Core.Bool.{Bool}
+use mathlib.Core.Path.{refl, sym}
+use denote.Ref.{now}
+use lib.Dec.{ltb}
+use lib.ListN.{length}
 use borrow.Author.Needs.{needs}
 use borrow.Author.Tests.{ltb-false}
+use Rattle.attempt.specs.Attempt.{Chooses}
+use Rattle.frame.specs.Entering.{Passes}
+use Rattle.record.specs.Changes.{current, inForce, withHolds}
+use Rattle.record.specs.Octets.{lineFrom}
+use Rattle.table.specs.Table.{slot}
 use Rattle.rules.specs.Answer.{eventRoom, roomOf}
-use Rattle.rules.specs.Call.{country}
+use Rattle.rules.specs.Call.{lastTime, country}
 use Rattle.rules.specs.Refusals.{isShort, leastEventRoom, leastRoom}
-use Rattle.step.proofs.Views.{kindOf, selected-alone}
-use Rattle.calls.proofs.Timed.{moved-named, turned-away-named}
+use Rattle.calls.proofs.Timed.{turned-away-named}
 use Rattle.calls.proofs.selecting.country.Statement.{statement}
 use Rattle.calls.proofs.selecting.country.Tie as tie
+
+-- behind the choice
+module _ (c : tie.After-country-choice) where
+  abbrev given : tie.Start
+  given = c .before .before .before .before .before .before .before .before .before .before .before
+
+  passes : Passes (c .before .before .before .before .before .enter .result) (given .args .tenant) (given .args .line) (given .args .time) (ltb (length (now (given .args .name))) 64) (now (given .args .table))
+  passes = c .before .before .before .before .before .enter .ensures .passes (c .before .before .before .if1 .left)
+
+  chosen : (room : ℕ) → Chooses (c .country-choice .result) (country (given .args .replied) (now (given .args .networks)) (now (given .args .text)) room) (ltb lastTime (given .args .time))
+      (current (given .args .time) (lineFrom (slot (now (given .args .table)) (c .before .before .before .before .before .enter .result .at)))) (now (given .args .text))
+  unfolding current inForce withHolds
+  chosen room = c .country-choice .ensures _ room (sym (c .before .phase-at .ensures))
 
 enter-requires : tie.Need-enter-requires
 enter-requires c κs = search needs
@@ -29,21 +51,16 @@ returns c =
     let first = c .before .before .before .before .before in
     turned-away-named _ _ _ (country _ _ _ _) _ _ _ refl _ _ _ (first .before .before .enter .ensures) (first .if1 .taken) _ _ _ (away .0) (away .1 .1) (away .1 .0)
 
-childless-at-requires : tie.Need-childless-at-requires
-childless-at-requires c κs = c .before .before .before .enter .ensures .passes (c .before .if1 .left) .stands .used
+phase-at-requires : tie.Need-phase-at-requires
+phase-at-requires c κs = c .before .before .before .enter .ensures .passes (c .before .if1 .left) .stands .used
 
-country-answer-requires : tie.Need-country-answer-requires
-country-answer-requires c κs =
-    let first = c .before .before .before in
-    (c .before .childless-at .ensures .1, ltb-false _ _ (first .before .before .enter .ensures .passes (first .if1 .left) .buffer-fits))
+country-choice-requires : tie.Need-country-choice-requires
+country-choice-requires c κs = search needs
 
-move-of-requires : tie.Need-move-of-requires
-move-of-requires c κs = search needs
-
-settle-requires : tie.Need-settle-requires
-settle-requires c κs =
-    let tested = c .before .before .before .before .before .before .before .before .before in
-    tested .before .before .enter .ensures .passes (tested .if1 .left) .stands
+finish-requires : tie.Need-finish-requires
+finish-requires c κs =
+    let c1 = c .before .before .before in
+    (passes c1 .stands, chosen c1 0 .within, ltb-false _ _ (passes c1 .buffer-fits))
 
 same-length-3 : tie.Need-same-length-3
 same-length-3 c = search needs
@@ -52,14 +69,10 @@ same-length-4 : tie.Need-same-length-4
 same-length-4 c = search needs
 
 returns-2 : tie.Need-returns-2
-unfolding isShort roomOf leastRoom leastEventRoom eventRoom kindOf
+unfolding isShort roomOf leastRoom leastEventRoom eventRoom
 returns-2 c =
-    let settle = c .before .before .settle in
-    let step = c .before .before .before .before .before .before .before .before in
-    let tested = step .before .before .before .before in
-    let passes = tested .before .before .enter .ensures .passes (tested .if1 .left) in
-    moved-named _ _ _ (country _ _ _ _) _ _ _ refl _ _ _ passes (selected-alone (country _ _ _ _) _ _ _ _ refl) (step .before .before .childless-at .ensures .0) (step .country-answer .result) _ (step .country-answer .ensures .0) (step .country-answer .ensures .1 .0)
-    (c .before .before .before .before .move-of .ensures) _ _ _ (settle .ensures .0) (settle .ensures .1 .0) (settle .ensures .1 .1)
+    let c1 = c .before .before .before .before .before .before .before .before in
+    c .before .before .before .before .finish .ensures _ _ _ (country _ _ _ _) (passes c1) refl refl (chosen c1 _)
 
 pub country-spec : {M : Type 1} → statement M
 country-spec =
@@ -70,10 +83,9 @@ country-spec =
     same-length
     same-length-2
     returns
-    childless-at-requires
-    country-answer-requires
-    move-of-requires
-    settle-requires
+    phase-at-requires
+    country-choice-requires
+    finish-requires
     same-length-3
     same-length-4
     returns-2)

@@ -24,7 +24,7 @@ use Rattle.config.proofs.list.collect.Tie as tie
 
 abbrev Inv-loop : tie.InvT-loop
 Inv-loop text start kind list₀ count₀ at₀ list count at =
-    (at ≤ length text) × (count ≤ mostListed) × (length list ≡ mostListed)
+    (at ≤ length text) × (count ≤ mostListed) × (length list ≡ length list₀)
     × (section (asListed kind) (entriesFrom text start) ≡ map listedIn (take count list) ++ section (asListed kind) (entriesFrom text at))
     × (rest (asListed kind) (entriesFrom text start) ≡ rest (asListed kind) (entriesFrom text at))
     × (distinct samePlmn (map plmnIn (map listedIn (take count list))) ≡ true)
@@ -32,18 +32,25 @@ Inv-loop text start kind list₀ count₀ at₀ list count at =
 abbrev μ-loop : tie.MeasureT-loop
 μ-loop text start kind list₀ count₀ at₀ list count at = length text - at
 
-sized : (l : List ℕ) (n : ℕ) → n ≤ mostListed → length l ≡ mostListed → length (map listedIn (take n l)) ≡ n
+sized : (l : List ℕ) (n : ℕ) → n ≤ mostListed → mostListed ≤ length l → length (map listedIn (take n l)) ≡ n
 sized l n h e = length-map (take n l) listedIn ∙ length-take-le n l (omega arith)
 
 next : (n : ℕ) → n ≤ mostListed → (n ≡ mostListed → ⊥) → n < mostListed
 next n h k = omega arith
+
+-- the list keeps its room
+roomy : {m n : ℕ} → n ≡ m → mostListed ≤ m → mostListed ≤ n
+roomy e h = omega arith
+
+within : {m n : ℕ} → n ≤ mostListed → mostListed ≤ m → n ≤ m
+within h k = omega arith
 
 falls : (at next n : ℕ) → at < next → next ≤ n → n - next < n - at
 falls at next n h k = omega arith
 
 loop-holds : tie.Need-loop-holds Inv-loop μ-loop
 unfolding distinct
-loop-holds c = (c .before .pre, search needs, search needs, refl, refl, refl)
+loop-holds c = (c .before .before .pre .0, search needs, refl, refl, refl, refl)
 
 listed-at-requires : tie.Need-listed-at-requires Inv-loop μ-loop
 listed-at-requires c κs = c .loop .inv .0
@@ -54,32 +61,42 @@ enum-known-x c = search needs
 enum-told : tie.Need-enum-told Inv-loop μ-loop
 enum-told c = search needs
 
+same-length : tie.Need-same-length Inv-loop μ-loop
+same-length c = search needs
+
 returns : tie.Need-returns Inv-loop μ-loop
 returns c =
-    let a = c .before .before .before .before .before .args in
+    let start = c .before .before .before .before .before .before in
+    let a = start .args in
     let at-loop = c .before .before .before .loop in
+    let long : mostListed ≤ length (at-loop .list) = roomy (at-loop .inv .2) (start .pre .1) in
     let none = subst (λ (r : Listed). ListedIs (a .kind) (now (a .text)) (at-loop .at) r) (c .enum-told .given .1) (c .before .before .listed-at .ensures) in
     let d = map listedIn (take (at-loop .count) (at-loop .list)) in
-    let few : length d ≤ mostListed = subst (λ (k : ℕ). k ≤ mostListed) (sym (sized (at-loop .list) (at-loop .count) (at-loop .inv .1) (at-loop .inv .2))) (at-loop .inv .1) in
+    let few : length d ≤ mostListed = subst (λ (k : ℕ). k ≤ mostListed) (sym (sized (at-loop .list) (at-loop .count) (at-loop .inv .1) long)) (at-loop .inv .1) in
     record {
       ok-is = all-accepted _ d _ (at-loop .inv .3) (at-loop .inv .5) (none .0) few;
       list-is = λ _. all-collected _ d _ (at-loop .inv .3) (at-loop .inv .5) (none .0);
       rest-is = λ _. at-loop .inv .4 ∙ none .1;
-      count-within = at-loop .inv .1;
+      count-within = within (at-loop .inv .1) long;
       next-within = at-loop .inv .0;
     }
 
 refused-requires : tie.Need-refused-requires Inv-loop μ-loop
 refused-requires c κs = search needs
 
+same-length-2 : tie.Need-same-length-2 Inv-loop μ-loop
+same-length-2 c = search needs
+
 returns-2 : tie.Need-returns-2 Inv-loop μ-loop
 returns-2 c =
-    let a = c .before .before .before .before .before .before .before .before .args in
+    let start = c .before .before .before .before .before .before .before .before .before in
+    let a = start .args in
     let at-loop = c .before .before .before .before .before .before .loop in
+    let long : mostListed ≤ length (at-loop .list) = roomy (at-loop .inv .2) (start .pre .1) in
     let one = subst (λ (r : Listed). ListedIs (a .kind) (now (a .text)) (at-loop .at) r) (c .before .before .before .x .given .1) (c .before .before .before .before .before .listed-at .ensures) in
     let d = map listedIn (take (at-loop .count) (at-loop .list)) in
-    not-accepted (a .kind) (now (a .text)) (a .start) _ (c .refused .ensures)
-    (too-many _ d _ (at-loop .inv .3) (at-loop .inv .5) _ _ (one .0) (sized (at-loop .list) (at-loop .count) (at-loop .inv .1) (at-loop .inv .2) ∙ c .before .if1 .taken))
+    not-accepted (a .kind) (now (a .text)) (a .start) _ _ (c .refused .ensures)
+    (too-many _ d _ (at-loop .inv .3) (at-loop .inv .5) _ _ (one .0) (sized (at-loop .list) (at-loop .count) (at-loop .inv .1) long ∙ c .before .if1 .taken))
 
 listed-in-requires : tie.Need-listed-in-requires Inv-loop μ-loop
 listed-in-requires c κs = search needs
@@ -95,40 +112,47 @@ found : (q p : Preferred) (ps : List Plmn) (t r : Bool) → q ≡ p → r ≡ am
 unfolding plmnIn
 found q p ps t r e h k = ap (λ (s : Preferred). among (s .plmn) ps) (sym e) ∙ sym h ∙ k
 
+same-length-3 : tie.Need-same-length-3 Inv-loop μ-loop
+same-length-3 c = search needs
+
 returns-3 : tie.Need-returns-3 Inv-loop μ-loop
 returns-3 c =
-    let a = c .before .before .before .before .before .before .before .before .before .before .before .args in
-    let at-loop = c .before .before .before .before .before .before .before .before .before .loop in
-    let one = subst (λ (r : Listed). ListedIs (a .kind) (now (a .text)) (at-loop .at) r) (c .before .before .before .before .before .before .x .given .1) (c .before .before .before .before .before .before .before .before .listed-at .ensures) in
+    let start = c .before .before .before .before .before .before .before .before .before .before .before .before .before in
+    let a = start .args in
+    let at-loop = c .before .before .before .before .before .before .before .before .before .before .loop in
+    let long : mostListed ≤ length (at-loop .list) = roomy (at-loop .inv .2) (start .pre .1) in
+    let one = subst (λ (r : Listed). ListedIs (a .kind) (now (a .text)) (at-loop .at) r) (c .before .before .before .before .before .before .before .x .given .1) (c .before .before .before .before .before .before .before .before .before .listed-at .ensures) in
     let d = map listedIn (take (at-loop .count) (at-loop .list)) in
-    not-accepted (a .kind) (now (a .text)) (a .start) _ (c .refused2 .ensures)
-    (repeated _ d _ (at-loop .inv .3) (at-loop .inv .5) _ _ (one .0) (found _ _ _ _ _ (c .before .before .before .listed-in .ensures) (c .before .before .has-preferred .ensures) (c .before .if2 .taken)))
+    not-accepted (a .kind) (now (a .text)) (a .start) _ _ (c .refused2 .ensures)
+    (repeated _ d _ (at-loop .inv .3) (at-loop .inv .5) _ _ (one .0) (found _ _ _ _ _ (c .before .before .before .before .listed-in .ensures) (c .before .before .has-preferred .ensures) (c .before .if2 .taken)))
 
 mul-list : tie.Need-mul-list Inv-loop μ-loop
 mul-list c = search needs
 
-array-write-list : tie.Need-array-write-list Inv-loop μ-loop
-array-write-list c = search needs
+slice-write-list : tie.Need-slice-write-list Inv-loop μ-loop
+slice-write-list c = search needs
 
 add-count : tie.Need-add-count Inv-loop μ-loop
 add-count c = search needs
 
 loop-less : tie.Need-loop-less Inv-loop μ-loop
 loop-less c =
-    let a = c .before .before .before .before .before .before .before .before .before .before .args in
-    let at-loop = c .before .before .before .before .before .before .before .before .loop in
-    let one = subst (λ (r : Listed). ListedIs (a .kind) (now (a .text)) (at-loop .at) r) (c .before .before .before .before .before .x .given .1) (c .before .before .before .before .before .before .before .listed-at .ensures) in
+    let a = c .before .before .before .before .before .before .before .before .before .before .before .before .args in
+    let at-loop = c .before .before .before .before .before .before .before .before .before .loop in
+    let one = subst (λ (r : Listed). ListedIs (a .kind) (now (a .text)) (at-loop .at) r) (c .before .before .before .before .before .before .x .given .1) (c .before .before .before .before .before .before .before .before .listed-at .ensures) in
     falls (at-loop .at) _ (length (now (a .text))) (one .2) (one .3)
 
 loop-again : tie.Need-loop-again Inv-loop μ-loop
 loop-again c =
-    let a = c .before .before .before .before .before .before .before .before .before .before .args in
-    let at-loop = c .before .before .before .before .before .before .before .before .loop in
-    let one = subst (λ (r : Listed). ListedIs (a .kind) (now (a .text)) (at-loop .at) r) (c .before .before .before .before .before .x .given .1) (c .before .before .before .before .before .before .before .listed-at .ensures) in
-    let room : at-loop .count < mostListed = next (at-loop .count) (at-loop .inv .1) (c .before .before .before .if1 .left) in
+    let start = c .before .before .before .before .before .before .before .before .before .before .before .before in
+    let a = start .args in
+    let at-loop = c .before .before .before .before .before .before .before .before .before .loop in
+    let long : mostListed ≤ length (at-loop .list) = roomy (at-loop .inv .2) (start .pre .1) in
+    let one = subst (λ (r : Listed). ListedIs (a .kind) (now (a .text)) (at-loop .at) r) (c .before .before .before .before .before .before .x .given .1) (c .before .before .before .before .before .before .before .before .listed-at .ensures) in
+    let room : at-loop .count < mostListed = next (at-loop .count) (at-loop .inv .1) (c .before .before .before .before .if1 .left) in
     let d = map listedIn (take (at-loop .count) (at-loop .list)) in
-    let x = c .before .before .before .before .before .x .given .0 .0 in
-    let Y = section (asListed (a .kind)) (entriesFrom (now (a .text)) (c .before .before .before .before .before .x .given .0 .1 .0)) in
+    let x = c .before .before .before .before .before .before .x .given .0 .0 in
+    let Y = section (asListed (a .kind)) (entriesFrom (now (a .text)) (c .before .before .before .before .before .before .x .given .0 .1 .0)) in
     let longer = ap (map listedIn) (stored-behind (at-loop .list) (at-loop .count) x (omega arith)) ∙ map-append listedIn (take (at-loop .count) (at-loop .list)) (x ∷ []) in (
       one .3,
       omega arith,
@@ -136,7 +160,7 @@ loop-again c =
       one-more _ d _ (at-loop .inv .3) (at-loop .inv .5) (listedIn x) Y (one .0) ∙ ap (λ (l : List Preferred). l ++ Y) (sym longer),
       at-loop .inv .4 ∙ one .1,
       ap (λ (l : List Preferred). distinct samePlmn (map plmnIn l)) longer
-          ∙ still-new _ d _ (at-loop .inv .3) (at-loop .inv .5) (listedIn x) Y (one .0) (found _ _ _ _ _ (c .before .before .listed-in .ensures) (c .before .has-preferred .ensures) (c .if2 .left)),
+          ∙ still-new _ d _ (at-loop .inv .3) (at-loop .inv .5) (listedIn x) Y (one .0) (found _ _ _ _ _ (c .before .before .before .listed-in .ensures) (c .before .has-preferred .ensures) (c .if2 .left)),
     )
 
 pub collect-spec : {M : Type 1} → statement M
@@ -149,15 +173,18 @@ collect-spec =
     listed-at-requires
     enum-known-x
     enum-told
+    same-length
     returns
     refused-requires
+    same-length-2
     returns-2
     listed-in-requires
     has-preferred-requires
     refused-requires-2
+    same-length-3
     returns-3
     mul-list
-    array-write-list
+    slice-write-list
     add-count
     loop-less
     loop-again)

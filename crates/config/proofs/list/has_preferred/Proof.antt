@@ -4,6 +4,7 @@ use mathlib.Core.Bool.{Bool, true, false, _||_}
 use mathlib.Core.List.{List, map}
 use mathlib.Core.Path.{_≡_, refl, sym, ap, _∙_}
 use lib.ListN.{length, getD, take, drop}
+use denote.Ref.{now}
 use borrow.Author.Needs.{needs}
 use Rattle.octets.specs.Search.{anyOf}
 use Rattle.network.specs.declared.Plmn.{Plmn}
@@ -15,10 +16,10 @@ use Rattle.config.proofs.list.has_preferred.Statement.{statement}
 use Rattle.config.proofs.list.has_preferred.Tie as tie
 
 abbrev Inv-loop : tie.InvT-loop
-Inv-loop n p list i₀ i = (i ≤ n) × (among p (map plmnIn (map listedIn (take n list))) ≡ among p (map plmnIn (map listedIn (drop i (take n list)))))
+Inv-loop list n p i₀ i = (i ≤ n) × (among p (map plmnIn (map listedIn (take n list))) ≡ among p (map plmnIn (map listedIn (drop i (take n list)))))
 
 abbrev μ-loop : tie.MeasureT-loop
-μ-loop n p list i₀ i = n - i
+μ-loop list n p i₀ i = n - i
 
 module _ (l : List ℕ) (n i : ℕ) (p : Plmn) (long : n ≤ length l) where
   -- the next PLMN decides first
@@ -38,8 +39,8 @@ loop-holds c = (search needs, refl)
 mul-listed-in : tie.Need-mul-listed-in Inv-loop μ-loop
 mul-listed-in c = search needs
 
-array-read-listed-in : tie.Need-array-read-listed-in Inv-loop μ-loop
-array-read-listed-in c = search needs
+shared-slice-read-listed-in : tie.Need-shared-slice-read-listed-in Inv-loop μ-loop
+shared-slice-read-listed-in c = search needs
 
 listed-in-requires : tie.Need-listed-in-requires Inv-loop μ-loop
 listed-in-requires c κs = search needs
@@ -49,10 +50,10 @@ same-plmn-requires c κs = search needs
 
 returns : tie.Need-returns Inv-loop μ-loop
 returns c =
-    let a = c .before .before .before .before .before .args in
-    let at-loop = c .before .before .before .before .loop in
-    let long : a .n ≤ length (a .t1) = search needs in
-    sym (at-loop .inv .1 ∙ next (a .t1) (a .n) (at-loop .i) (a .p) long (c .before .before .before .loop-test .taken) true (ap (λ (q : Preferred). samePlmn (a .p) (q .plmn)) (sym (c .before .before .listed-in .ensures)) ∙ sym (c .before .same-plmn .ensures) ∙ c .if1 .taken))
+    let start = c .before .before .before .before .before .before .before in
+    let a = start .args in
+    let at-loop = c .before .before .before .before .before .loop in
+    sym (at-loop .inv .1 ∙ next (now (a .list)) (a .n) (at-loop .i) (a .p) (start .pre) (c .before .before .before .before .loop-test .taken) true (ap (λ (q : Preferred). samePlmn (a .p) (q .plmn)) (sym (c .before .before .listed-in .ensures)) ∙ sym (c .before .same-plmn .ensures) ∙ c .if1 .taken))
 
 add-i : tie.Need-add-i Inv-loop μ-loop
 add-i c = search needs
@@ -62,16 +63,16 @@ loop-less c = search needs
 
 loop-again : tie.Need-loop-again Inv-loop μ-loop
 loop-again c =
-    let a = c .before .before .before .before .before .args in
-    let at-loop = c .before .before .before .before .loop in
-    let long : a .n ≤ length (a .t1) = search needs in
-    (search needs, at-loop .inv .1 ∙ next (a .t1) (a .n) (at-loop .i) (a .p) long (c .before .before .before .loop-test .taken) false (ap (λ (q : Preferred). samePlmn (a .p) (q .plmn)) (sym (c .before .before .listed-in .ensures)) ∙ sym (c .before .same-plmn .ensures) ∙ c .if1 .left))
+    let start = c .before .before .before .before .before .before .before in
+    let a = start .args in
+    let at-loop = c .before .before .before .before .before .loop in
+    (search needs, at-loop .inv .1 ∙ next (now (a .list)) (a .n) (at-loop .i) (a .p) (start .pre) (c .before .before .before .before .loop-test .taken) false (ap (λ (q : Preferred). samePlmn (a .p) (q .plmn)) (sym (c .before .before .listed-in .ensures)) ∙ sym (c .before .same-plmn .ensures) ∙ c .if1 .left))
 
 returns-2 : tie.Need-returns-2 Inv-loop μ-loop
 returns-2 c =
-    let a = c .before .before .args in
-    let long : a .n ≤ length (a .t1) = search needs in
-    sym (c .before .loop .inv .1 ∙ done (a .t1) (a .n) (c .before .loop .i) (a .p) long (c .loop-test .left))
+    let start = c .before .before .before in
+    let a = start .args in
+    sym (c .before .loop .inv .1 ∙ done (now (a .list)) (a .n) (c .before .loop .i) (a .p) (start .pre) (c .loop-test .left))
 
 pub has-preferred-spec : {M : Type 1} → statement M
 has-preferred-spec =
@@ -81,7 +82,7 @@ has-preferred-spec =
     μ-loop
     loop-holds
     mul-listed-in
-    array-read-listed-in
+    shared-slice-read-listed-in
     listed-in-requires
     same-plmn-requires
     returns

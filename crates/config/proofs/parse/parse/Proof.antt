@@ -1,56 +1,42 @@
--- `config::parse::parse` meets its contract: the first line decides where the rest begins.
+-- `config::parse::parse` meets its contract: `home` comes first, and the rest is settled behind it.
+use borrow.Author.Needs.{needs}
 use mathlib.Core.Path.{_∙_, subst}
 use denote.Ref.{now}
-use borrow.Author.Needs.{needs}
-use Rattle.config.specs.Branch.{LineIs}
-use Rattle.config.specs.declared.line.TextLine.{TextLine}
-use Rattle.config.proofs.Wholes.{with-home, end-no-home, bad-no-home}
+use Rattle.config.specs.Branch.{HomeIs, plmnKept}
+use Rattle.config.specs.Settings.{asHome, withHome}
+use Rattle.config.specs.declared.list.Listed.{Listed}
+use Rattle.config.proofs.Wholes.{not-parsed, with-home}
 use Rattle.config.proofs.parse.parse.Statement.{statement}
 use Rattle.config.proofs.parse.parse.Tie as tie
 
-line-at-requires : tie.Need-line-at-requires
-line-at-requires c κs = search needs
-
-enum-known-e : tie.Need-enum-known-e
-enum-known-e c = search needs
-
-with-home-requires : tie.Need-with-home-requires
-with-home-requires c κs = (subst (λ (r : TextLine). LineIs (now (c .before .before .before .before .before .args .text)) 0 r) (c .before .e .given .1) (c .before .before .before .line-at .ensures)) .2
-
-enum-told : tie.Need-enum-told
-enum-told c = search needs
-
-ill-formed-requires : tie.Need-ill-formed-requires
-ill-formed-requires c κs = search needs
-
-enum-told-2 : tie.Need-enum-told-2
-enum-told-2 c = search needs
-
-ill-formed-requires-2 : tie.Need-ill-formed-requires-2
-ill-formed-requires-2 c κs = search needs
-
 returns : tie.Need-returns
 returns c =
-    let line = subst (λ (r : TextLine). LineIs (now (c .before .before .before .before .before .before .args .text)) 0 r) (c .before .before .e .given .1) (c .before .before .before .before .line-at .ensures) in
-    (c .with-home .ensures .0 ∙ with-home _ _ _ (line .0) (line .3), c .with-home .ensures .1)
+    let a = c .before .before .before .before .before .before .before in
+    (not-parsed _ _ _ (c .ill-formed .ensures .0) ∙ subst (λ (r : Listed). HomeIs (now (a .args .text)) r) (c .before .enum-told .given .1) (c .before .before .before .home-at .ensures), c .ill-formed .ensures .1 _ _ _)
+
+settled-requires : tie.Need-settled-requires
+settled-requires c κs =
+    let a = c .before .before .before .before .before .before .before .before .before in
+    (subst (λ (r : Listed). HomeIs (now (a .args .text)) r) (c .before .before .before .x .given .1) (c .before .before .before .before .before .home-at .ensures) .2, a .pre)
 
 returns-2 : tie.Need-returns-2
-returns-2 c = (c .ill-formed .ensures .0 ∙ end-no-home _ (subst (λ (r : TextLine). LineIs (now (c .before .before .before .before .before .args .text)) 0 r) (c .before .enum-told .given .1) (c .before .before .before .line-at .ensures) .0), c .ill-formed .ensures .1 _)
-
-returns-3 : tie.Need-returns-3
-returns-3 c = (c .ill-formed2 .ensures .0 ∙ bad-no-home _ (subst (λ (r : TextLine). LineIs (now (c .before .before .before .before .before .args .text)) 0 r) (c .before .enum-told2 .given .1) (c .before .before .before .line-at .ensures)), c .ill-formed2 .ensures .1 _)
+unfolding asHome withHome plmnKept
+returns-2 c =
+    let called = c .before .before .before .before in
+    let a = called .before .before .before .before .before .before .before .before .before .before in
+    let home = subst (λ (r : Listed). HomeIs (now (a .args .text)) r) (called .before .before .before .before .x .given .1) (called .before .before .before .before .before .before .home-at .ensures) in
+    (called .settled .ensures .0 ∙ with-home (now (a .args .text)) _ _ (home .0) (home .1), called .settled .ensures .1)
 
 pub parse-spec : {M : Type 1} → statement M
 parse-spec =
     tie.close
     (tie.spec
-    line-at-requires
-    enum-known-e
-    with-home-requires
-    enum-told
-    ill-formed-requires
-    enum-told-2
-    ill-formed-requires-2
+    (λ c κs. search needs)
+    (λ c. search needs)
+    (λ c. search needs)
+    (λ c κs. search needs)
     returns
-    returns-2
-    returns-3)
+    settled-requires
+    (λ c. search needs)
+    (λ c. search needs)
+    returns-2)
