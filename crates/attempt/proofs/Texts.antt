@@ -13,8 +13,14 @@ use Rattle.config.specs.Settings.{Settings, Within, configOf, parsed, settingsI
 use Rattle.config.specs.declared.Config.{Config}
 use Rattle.config.specs.declared.Parsed.{Parsed}
 use Rattle.place.specs.declared.Facts.{Facts}
+use Rattle.phase.specs.Awaited.{awaitedIn}
+use Rattle.phase.specs.Stage as Stage
+use Rattle.phase.specs.Stage.{isIn}
+use Rattle.phase.specs.declared.Phase.{Phase}
+use Rattle.phase.specs.declared.Phase.the-variants as Phase
 use Rattle.record.specs.Line.{Line}
 use Rattle.rules.specs.Call.{Event}
+use Rattle.rules.specs.Phases.{factsIn}
 use Rattle.rules.specs.Refusals.{isHomeAbroad, isLong, isMalformed, isOutOfRange, refusalsOf}
 use Rattle.attempt.specs.Lent.{LentIs, readRefusals, textRefusals}
 use Rattle.attempt.specs.declared.lent.Lent.{Lent}
@@ -42,12 +48,26 @@ module _ (ps bs text : List ℕ) (f : Option Facts) (p : Parsed) (is-read : pars
     within = within;
   }
 
--- a test that is made where another one is passed
-pub where-awaited : (b : Bool) (s : Option Settings) (f : Option Facts) → b && isHomeAbroad s f ≡ isHomeAbroad s (cond b f none)
-unfolding isHomeAbroad
-where-awaited true s f = refl
-where-awaited false none f = refl
-where-awaited false (some s) f = refl
+-- the test against the home MCC is made where the country answer is awaited
+pub where-awaited : (p : Phase) (s : Option Settings) → isIn Stage.country p && isHomeAbroad s (factsIn p) ≡ isHomeAbroad s (awaitedIn p)
+unfolding isHomeAbroad isIn factsIn awaitedIn
+where-awaited Phase.Idle none = refl
+where-awaited Phase.Idle (some s) = refl
+where-awaited (Phase.Country f) s = refl
+where-awaited (Phase.Name f) none = refl
+where-awaited (Phase.Name f) (some s) = refl
+where-awaited (Phase.Chosen a) none = refl
+where-awaited (Phase.Chosen a) (some s) = refl
+where-awaited (Phase.Init a) none = refl
+where-awaited (Phase.Init a) (some s) = refl
+where-awaited (Phase.Auth a) none = refl
+where-awaited (Phase.Auth a) (some s) = refl
+where-awaited (Phase.Eap a t) none = refl
+where-awaited (Phase.Eap a t) (some s) = refl
+where-awaited (Phase.Sure a) none = refl
+where-awaited (Phase.Sure a) (some s) = refl
+where-awaited (Phase.Live a) none = refl
+where-awaited (Phase.Live a) (some s) = refl
 
 given-8 : (b : Bool) (rest : ℕ) → b ≡ true → cond b 8 rest ≡ 8
 given-8 b rest q = rw q

@@ -10,13 +10,6 @@ use Rattle.config.specs.Settings.{Settings, Within, configOf, settingsIn}
 use Rattle.place.specs.declared.Facts.{Facts}
 use Rattle.rules.specs.Refusals.{isHomeAbroad, isLong}
 use Rattle.attempt.specs.declared.lent.Lent.{Lent}
-use Rattle.attempt.specs.declared.lent.MaybeFacts.{MaybeFacts}
-use Rattle.attempt.specs.declared.lent.MaybeFacts.the-variants as MaybeFacts
-
--- the facts that are there
-unfoldable pub factsOption : MaybeFacts → Option Facts
-factsOption MaybeFacts.None = none
-factsOption (MaybeFacts.Are f) = some f
 
 -- of a text that was read: 8 abroad with its home MCC, 9 not well formed
 unfoldable pub readRefusals : Option Settings → Option Facts → List Refusal

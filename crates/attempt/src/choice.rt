@@ -1,14 +1,13 @@
 // What selection comes to on a line, up to the choice of a name or an address.
 use crate::given::facts_of;
 use crate::given::numbers_fit;
-use crate::lent::MaybeFacts;
-use crate::lent::awaiting;
 use crate::lent::read;
 use address::HOLDS;
 use config::MOST_LISTED;
 use lists::networks_fit;
 use network::MaybePlmn;
 use phase::IDLE;
+use phase::MaybeFacts;
 use phase::Phase;
 use phase::number;
 use place::Facts;
@@ -20,6 +19,7 @@ ghost use mathlib.Core.Path.{_≡_};
 ghost use Prim.Native.Nat.{ℕ};
 ghost use lib.Dec.{ltb};
 ghost use lib.ListN.{length};
+ghost use Rattle.phase.specs.Awaited.{awaitedIn, factsOption};
 ghost use Rattle.record.specs.Line.{Line};
 ghost use Rattle.rules.specs.Call.{country, lastTime, start};
 ghost use Rattle.rules.specs.Refusals.{badNetworks};
@@ -96,20 +96,26 @@ fn are_bad(replied: u64, networks: &[u8]) -> bool
     (replied == 0) & (0 < networks.len())
 }
 
-// What the country answer comes to on a line in a phase.
-pub fn country_choice(phase: Phase, time: u64, replied: u64, networks: &[u8], text: &[u8]) -> Chosen
-    ensures { λ r. ⌜ ((x : Line) (room : ℕ) → x .phase ≡ phase → Chooses r (country replied (now (networks .entry)) (now (text .entry)) room) (ltb lastTime time) x (now (text .entry))) ⌝ }
+// What the country answer comes to on a line, told of the place facts where the line waits for it.
+pub fn country_choice(
+    awaited: MaybeFacts,
+    time: u64,
+    replied: u64,
+    networks: &[u8],
+    text: &[u8],
+) -> Chosen
+    ensures { λ r. ⌜ ((x : Line) (room : ℕ) → factsOption awaited ≡ awaitedIn (x .phase) → Chooses r (country replied (now (networks .entry)) (now (text .entry)) room) (ltb lastTime time) x (now (text .entry))) ⌝ }
 {
     if is_late(time) | are_bad(replied, networks) {
         return no_choice(8);
     }
     let mut preferred = [0u64; MOST_LISTED];
     let mut barred = [0u64; MOST_LISTED];
-    let lent = read(text, awaiting(phase), &mut preferred, &mut barred);
+    let lent = read(text, awaited, &mut preferred, &mut barred);
     if lent.refusal != 0 {
         return no_choice(lent.refusal);
     }
-    let Phase::Country(facts) = phase else {
+    let MaybeFacts::Are(facts) = awaited else {
         return no_choice(10);
     };
     let config = lent.config;

@@ -4,39 +4,18 @@ use config::MOST_TEXT;
 use config::Parsed;
 use config::parse::ill_formed;
 use config::parse::parse;
-use phase::Phase;
-use place::Facts;
+use phase::MaybeFacts;
 use selection::is_home_abroad;
-ghost use mathlib.Core.Bool.{cond};
-ghost use mathlib.Core.Option.{none};
 ghost use mathlib.Core.Path.{_≡_};
 ghost use Rattle.octets.specs.Refusal.{refusal};
 ghost use Rattle.config.specs.Settings.{parsed, Room};
-ghost use Rattle.phase.specs.Stage as Stage;
-ghost use Rattle.phase.specs.Stage.{isIn};
-ghost use Rattle.rules.specs.Phases.{factsIn};
-ghost use Rattle.attempt.specs.Lent.{factsOption, readRefusals, LentIs};
-
-// The place facts that a text is held against, where there are any.
-pub(crate) enum MaybeFacts {
-    None,
-    Are(Facts),
-}
+ghost use Rattle.phase.specs.Awaited.{factsOption};
+ghost use Rattle.attempt.specs.Lent.{readRefusals, LentIs};
 
 // A text that was read: its refusal number, 8, 9 or 0, and where that is 0 what the text says beside the two lists.
 pub(crate) struct Lent {
     pub refusal: u64,
     pub config: Config,
-}
-
-// The place facts of a line that waits for the country answer.
-pub(crate) fn awaiting(phase: Phase) -> MaybeFacts
-    ensures { λ r. ⌜ factsOption r ≡ cond (isIn Stage.country phase) (factsIn phase) none ⌝ }
-{
-    let Phase::Country(facts) = phase else {
-        return MaybeFacts::None;
-    };
-    MaybeFacts::Are(facts)
 }
 
 // The refusal of a text that is not too long: 8 where the place is abroad with its home MCC, 9 where it is not well formed.

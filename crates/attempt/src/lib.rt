@@ -18,6 +18,7 @@ use lists::address_at;
 use lists::addresses_fit;
 use octets::slice::zero;
 use phase::Phase;
+use phase::awaiting;
 use place::Facts;
 use query::asked;
 use query::build;
@@ -164,7 +165,7 @@ pub fn country_answer(
 {
     let found = current(line, time);
     let phase = found.phase;
-    let chosen = country_choice(phase, time, replied, networks, text);
+    let chosen = country_choice(awaiting(phase), time, replied, networks, text);
     finished(line, found, chosen, text, name)
 }
 

@@ -13,6 +13,7 @@ use frame::settle;
 use network::NAME_ROOM;
 use rules::StartNumbers;
 use selection::Choice;
+use table::awaited_at;
 use table::held_at;
 use table::in_force_at;
 use table::is_held_at;
@@ -140,8 +141,8 @@ pub fn country(
     if entered.refusal != 0 {
         return refuse(entered.refusal, name, answer);
     }
-    let phase = phase_at(table, entered.at);
-    let chosen = country_choice(phase, time, replied, networks, text);
+    let awaited = awaited_at(table, entered.at);
+    let chosen = country_choice(awaited, time, replied, networks, text);
     finish(table, entered, time, chosen, text, name, answer)
 }
 

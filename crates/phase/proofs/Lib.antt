@@ -1,4 +1,5 @@
 -- The laws that the proofs of this crate share.
+pub mod Waits
 pub mod Bools
 pub mod Places
 pub mod Phases

@@ -2,6 +2,7 @@
 pub mod Facts
 pub mod Stage
 pub mod Chosen
+pub mod Awaited
 pub mod Phase
 pub mod Branch
 pub mod Laws

@@ -6,6 +6,7 @@ use crate::EAP;
 use crate::IDLE;
 use crate::INIT;
 use crate::LIVE;
+use crate::MaybeFacts;
 use crate::NAME;
 use crate::Phase;
 use crate::SURE;
@@ -27,6 +28,7 @@ ghost use mathlib.Core.Path.{_≡_};
 ghost use Prim.Native.Nat.{_+_, _≤_};
 ghost use lib.ListN.{length};
 ghost use Rattle.octets.specs.Part.{Wrote};
+ghost use Rattle.phase.specs.Awaited.{awaitedIn, factsOption};
 ghost use Rattle.phase.specs.Branch.{isAsking, isCountry, isHaving, isEap};
 ghost use Rattle.phase.specs.Phase.{askingOctets, havingFrom, havingOctets, isAbroad, isPhase, phaseFrom, phaseLength, phaseOctets, turnFrom, turnOctets, turnWritten};
 
@@ -107,6 +109,17 @@ pub fn read_phase(list: &[u8], at: usize) -> Phase
         return Phase::Name(read_facts(list, at + 1));
     }
     read_having(list, at, number)
+}
+
+// The place facts of a line that waits for the country answer, from the 20 octets of its phase.
+pub fn read_awaited(list: &[u8], at: usize) -> MaybeFacts
+    requires { ⌜ at + phaseLength ≤ length (now list) ⌝ }
+    ensures { λ r. ⌜ factsOption r ≡ awaitedIn (phaseFrom (now (list .entry)) at) ⌝ }
+{
+    if get(list, at, 1) != COUNTRY {
+        return MaybeFacts::None;
+    }
+    MaybeFacts::Are(read_facts(list, at + 1))
 }
 
 // Stores a phase that keeps place facts.

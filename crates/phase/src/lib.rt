@@ -5,6 +5,7 @@ mod place_facts;
 use address::Address;
 use place::Facts;
 ghost use mathlib.Core.Path.{_≡_};
+ghost use Rattle.phase.specs.Awaited.{awaitedIn, factsOption};
 ghost use Rattle.phase.specs.Chosen.{addressOption, chosen};
 ghost use Rattle.phase.specs.Laws.{Laws};
 ghost use Rattle.phase.specs.Stage.{stageNumber, stageOf};
@@ -35,6 +36,12 @@ pub enum Phase {
 // An address or none.
 pub enum MaybeAddress {
     Is(Address),
+    None,
+}
+
+// Place facts or none.
+pub enum MaybeFacts {
+    Are(Facts),
     None,
 }
 
@@ -89,6 +96,16 @@ pub fn chosen(phase: Phase) -> MaybeAddress
         Phase::Sure(a) => MaybeAddress::Is(a),
         Phase::Live(a) => MaybeAddress::Is(a),
     }
+}
+
+// The place facts of a line that waits for the country answer.
+pub fn awaiting(phase: Phase) -> MaybeFacts
+    ensures { λ r. ⌜ factsOption r ≡ awaitedIn phase ⌝ }
+{
+    let Phase::Country(facts) = phase else {
+        return MaybeFacts::None;
+    };
+    MaybeFacts::Are(facts)
 }
 
 // Does nothing; its promise is that writing and reading undo each other.

@@ -22,7 +22,7 @@ use Rattle.record.specs.Line.{Line}
 use Rattle.record.specs.Octets.{lineFrom, recordOctets}
 use Rattle.record.specs.Sound.{childrenSound, chosenFree, holdsSound, inRange, isRecord, lineSound, lineWritten}
 use Rattle.response.specs.Response.{outOfRange, writeRefusal}
-use Rattle.table.specs.Table.{hasPair, isTable, lacksPair, pairAt, pairOnce, slot, slotSound}
+use Rattle.table.specs.Table.{pairAt, slot, slotSound}
 use Rattle.rules.specs.Cases.{firstReply, nas, nasPacket, startPacket, success}
 use Rattle.rules.specs.Computed.{evaluated, slotsAfter}
 
@@ -77,12 +77,8 @@ judged l = cond (isRecord l) 1 0 ∷ []
 unfoldable pub judgedSlot : List ℕ → List ℕ
 judgedSlot l = cond (slotSound l 0) 1 0 ∷ []
 
--- 1 where octets are a sound table
-unfoldable pub judgedTable : List ℕ → List ℕ
-judgedTable l = cond (isTable l) 1 0 ∷ []
-
 unfoldable pub layouts : List Layout
-unfolding alive firstReply entry4 inEap judged judgedSlot judgedTable nas nasPacket parameterNumbers entry6 startPacket success waiting
+unfolding alive firstReply entry4 inEap judged judgedSlot nas nasPacket parameterNumbers entry6 startPacket success waiting
 layouts =
     -- a record: pair, time, phase with its data, count of holds, count of children, holds, children
     record {
@@ -126,13 +122,6 @@ layouts =
     ∷ record { gives = judgedSlot (1 ∷ zeros 242); says = 1 ∷ [] }
     ∷ record { gives = judgedSlot (0 ∷ 1 ∷ zeros 241); says = 0 ∷ [] }
     ∷ record { gives = judgedSlot (zeros 242 ++ 1 ∷ []); says = 0 ∷ [] }
-    -- a table has 32 records, each free or sound, and no pair twice
-    ∷ record { gives = judgedTable (zeros 7776); says = 1 ∷ [] }
-    ∷ record { gives = judgedTable (zeros 7533); says = 0 ∷ [] }
-    ∷ record { gives = judgedTable (zeros 7777); says = 0 ∷ [] }
-    ∷ record { gives = judgedTable (zeros 7775 ++ 1 ∷ []); says = 0 ∷ [] }
-    ∷ record { gives = judgedTable (zeros 7290 ++ 1 ∷ zeros 242 ++ 2 ∷ zeros 242); says = 1 ∷ [] }
-    ∷ record { gives = judgedTable (zeros 7290 ++ 1 ∷ zeros 242 ++ 1 ∷ zeros 242); says = 0 ∷ [] }
     -- a packet in six numbers, with spare and extensions ignored
     ∷ record { gives = packetNumbers (readPacket (startPacket 7)); says = 1 ∷ 7 ∷ zeros 4 }
     ∷ record { gives = packetNumbers (readPacket (nasPacket 8)); says = 2 ∷ 8 ∷ 0 ∷ 0 ∷ 16 ∷ 2 ∷ [] }
@@ -162,9 +151,9 @@ layouts =
 
 unfoldable pub layoutGot : Layout → List ℕ
 unfolding askingOctets childFrom childIn childOctets childrenFrom childrenOctets childrenSound childrenWritten chosenFree different endNumber endOf
-    evaluated factsFit factsFrom factsOctets factsWritten hasAddress hasPair havingFrom havingOctets holdFrom holdIn holdOctets holdsFrom
-    holdsOctets holdsSound holdsWritten inRange isRecord isTable lacksPair lineFrom lineSound lineWritten outOfRange packetNumbers pairAt
-    pairOnce parameterAt phaseFits phaseFrom phaseOctets phaseWritten placeFits placeFrom placeOctets placeWritten recordOctets registeredFits
+    evaluated factsFit factsFrom factsOctets factsWritten hasAddress havingFrom havingOctets holdFrom holdIn holdOctets holdsFrom
+    holdsOctets holdsSound holdsWritten inRange isRecord lineFrom lineSound lineWritten outOfRange packetNumbers pairAt
+    parameterAt phaseFits phaseFrom phaseOctets phaseWritten placeFits placeFrom placeOctets placeWritten recordOctets registeredFits
     registeredFrom registeredOctets registeredWritten size slot slotSound slotsAfter spisDiffer turnOctets writeRefusal
 layoutGot e = evaluated (e .gives)
 

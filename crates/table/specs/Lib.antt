@@ -2,4 +2,5 @@
 pub mod Table
 pub mod Stores
 pub mod Slots
+pub mod Examples
 pub mod Laws

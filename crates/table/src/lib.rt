@@ -8,7 +8,9 @@ use octets::number::get;
 use octets::slice::part;
 use octets::slice::zero;
 use octets::slice::zeros_at;
+use phase::MaybeFacts;
 use phase::Phase;
+use phase::codec::read_awaited;
 use phase::codec::read_phase;
 use record::PAIRS;
 use record::PHASE_AT;
@@ -44,6 +46,7 @@ ghost use Rattle.addresses.specs.Addresses.{addressLength};
 ghost use Rattle.children.specs.Children.{hasSpi, mostChildren};
 ghost use Rattle.lists.specs.Held.{HeldAre};
 ghost use Rattle.lists.specs.Lists.{mostEntries};
+ghost use Rattle.phase.specs.Awaited.{awaitedIn, factsOption};
 ghost use Rattle.phase.specs.Chosen.{chosen};
 ghost use Rattle.standing.specs.Standing.{bare};
 ghost use Rattle.phase.specs.declared.Phase.the-variants.{Idle};
@@ -166,6 +169,14 @@ pub fn unheld_at(table: &[u8], i: usize) -> Record
     ensures { λ r. ⌜ InArrays r ⌝ }
 {
     read_unheld(part(table, RECORD * i, RECORD))
+}
+
+// The place facts of the line of a used record that waits for the country answer.
+pub fn awaited_at(table: &[u8], i: usize) -> MaybeFacts
+    requires { ⌜ UsedAt (now table) i ⌝ }
+    ensures { λ r. ⌜ factsOption r ≡ awaitedIn (lineFrom (slot (now (table .entry)) i) .phase) ⌝ }
+{
+    read_awaited(part(table, RECORD * i, RECORD), PHASE_AT)
 }
 
 // How many children the line of a used record has.

@@ -1,21 +1,18 @@
 -- `attempt::choice::country_choice` meets its contract: each return has passed the tests before it.
 use Prim.Native.Nat.{ℕ}
-use mathlib.Core.Bool.{Bool, cond, _||_}
-use mathlib.Core.Option.{Option, none}
+use mathlib.Core.Bool.{Bool, _||_}
 use mathlib.Core.Path.{_≡_, refl, sym, ap, ap₂, _∙_}
 use native.Mathlib.Omega.{arith}
 use denote.Ref.{now}
 use lib.Dec.{ltb}
 use borrow.Author.Needs.{needs}
 use Rattle.config.specs.Settings.{configOf}
-use Rattle.phase.specs.Stage as Stage
-use Rattle.phase.specs.Stage.{isIn}
-use Rattle.phase.specs.declared.Phase.{Phase}
-use Rattle.phase.proofs.Stages.{other-stage, same-stage, tags}
+use Rattle.phase.specs.Awaited.{awaitedIn, factsOption}
+use Rattle.phase.proofs.Stages.{same-stage}
+use Rattle.phase.proofs.Waits.{elsewhere, in-country}
 use Rattle.query.proofs.Texts.{country-within}
 use Rattle.record.specs.Line.{Line}
 use Rattle.rules.specs.Call.{country, lastTime}
-use Rattle.rules.specs.Phases.{factsIn}
 use Rattle.rules.specs.Refusals.{badNetworks, hasNoRoom, isAllowed, isHeldFull, isHomeAbroad, isLong, isMalformed, isOutOfRange, isSpiTaken, waitsHomeAbroad}
 use Rattle.step.proofs.Steps.{accepted, untimely}
 use Rattle.attempt.proofs.Choosing.{chooses, refuses}
@@ -27,16 +24,16 @@ use Rattle.attempt.proofs.choice.country_choice.Tie as tie
 -- behind the reading of the text
 module _ (c : tie.After-read) where
   abbrev given : tie.Start
-  given = c .before .before .before .before .before .before .before .before .before
+  given = c .before .before .before .before .before .before .before .before
 
-  tests : (x : Line) (room : ℕ) → x .phase ≡ given .args .phase
+  tests : (x : Line) (room : ℕ) → factsOption (given .args .awaited) ≡ awaitedIn (x .phase)
       → Tested (country (given .args .replied) (now (given .args .networks)) (now (given .args .text)) room) (ltb lastTime (given .args .time)) x (c .read .result)
   unfolding isOutOfRange isMalformed waitsHomeAbroad
   tests x room here =
       let a = given .args in
       let settings = configOf (now (a .text)) in
-      let awaited = where-awaited (isIn Stage.country (x .phase)) settings (factsIn (x .phase)) ∙ ap (λ (p : Phase). isHomeAbroad settings (cond (isIn Stage.country p) (factsIn p) none)) here ∙ sym (ap (isHomeAbroad settings) (c .before .before .before .awaiting .ensures)) in
-      let passed = c .before .before .before .before in
+      let awaited = where-awaited (x .phase) settings ∙ sym (ap (isHomeAbroad settings) here) in
+      let passed = c .before .before .before in
       tested (country (a .replied) (now (a .networks)) (now (a .text)) room) x (ltb lastTime (a .time)) (badNetworks (a .replied) (now (a .networks))) _ _
       (ap (λ (b : Bool). badNetworks (a .replied) (now (a .networks)) || isLong (now (a .text)) || b) awaited) refl _ _ _
       (c .read .ensures) (sym (ap₂ _||_ (passed .before .before .is-late .ensures) (passed .before .are-bad .ensures)) ∙ passed .if1 .left)
@@ -57,9 +54,6 @@ returns c =
     let late = sym (ap₂ _||_ (test .before .before .is-late .ensures) (test .before .are-bad .ensures)) ∙ test .if1 .taken in
     λ x room here. refuses (country _ _ _ room) _ x _ _ 8 (c .no-choice .ensures) (λ z. omega (arith, z)) (by-own (country _ _ _ room) x _ _ _ _ refl late)
 
-awaiting-requires : tie.Need-awaiting-requires
-awaiting-requires c κs = search needs
-
 slice-aggregate-read : tie.Need-slice-aggregate-read
 slice-aggregate-read c = search needs
 
@@ -77,20 +71,22 @@ returns-2 c =
     let c1 = c .before .before .before .before .before in
     λ x room here. refuses (country _ _ _ room) _ x _ _ _ (c .no-choice2 .ensures) (c .before .if2 .taken) (tests c1 x room here .by-text (c .before .if2 .taken))
 
-enum-known-phase : tie.Need-enum-known-phase
-enum-known-phase c = search needs
+enum-known-awaited : tie.Need-enum-known-awaited
+enum-known-awaited c = search needs
+
+enum-told : tie.Need-enum-told
+enum-told c = search needs
 
 no-choice-requires-3 : tie.Need-no-choice-requires-3
 no-choice-requires-3 c κs = search needs
 
 returns-3 : tie.Need-returns-3
-unfolding isAllowed
+unfolding isAllowed factsOption
 returns-3 c =
-    let c2 = c .before .before in
+    let c2 = c .before .before .before in
     let c1 = c2 .before .before .before .before in
-    let elsewhere = other-stage Stage.country (given c1 .args .phase) tags (c .before .match .keys2) in
     λ x room here. refuses (country _ _ _ room) _ x _ _ 10 (c .no-choice3 .ensures) (λ z. omega (arith, z))
-    (untimely _ _ x (tests c1 x room here .timely) (tests c1 x room here .fit (c2 .if2 .left)) (tests c1 x room here .formed (c2 .if2 .left)) (ap (isIn Stage.country) here ∙ elsewhere))
+    (untimely _ _ x (tests c1 x room here .timely) (tests c1 x room here .fit (c2 .if2 .left)) (tests c1 x room here .formed (c2 .if2 .left)) (elsewhere (x .phase) (sym here ∙ ap factsOption (c .before .enum-told .given .1))))
 
 slice-aggregate-country : tie.Need-slice-aggregate-country
 slice-aggregate-country c = search needs
@@ -102,14 +98,14 @@ country-requires : tie.Need-country-requires
 country-requires c κs = c .before .before .before .before .before .before .before .before .before .before .read .ensures .within .counted
 
 returns-4 : tie.Need-returns-4
-unfolding isAllowed isSpiTaken hasNoRoom isHeldFull
+unfolding isAllowed isSpiTaken hasNoRoom isHeldFull factsOption
 returns-4 c =
     let c2 = c .before .before .before .before .before .before .before in
     let c1 = c2 .before .before .before .before in
-    let waits = c .before .before .before .before .before .phase .given .1 in
+    let told = c .before .before .before .before .before .awaited .given .1 in
     λ x room here. chooses (country _ _ _ room) _ x _ _ _
-    (accepted _ _ x (tests c1 x room here .timely) (tests c1 x room here .fit (c2 .if2 .left)) (tests c1 x room here .formed (c2 .if2 .left)) (same-stage (here ∙ waits)) refl refl refl)
-    (of-country _ _ _ room x _ _ _ (here ∙ waits) (c1 .read .ensures .settings-are (c2 .if2 .left)) (c .country .ensures))
+    (accepted _ _ x (tests c1 x room here .timely) (tests c1 x room here .fit (c2 .if2 .left)) (tests c1 x room here .formed (c2 .if2 .left)) (same-stage (in-country (x .phase) _ (sym here ∙ ap factsOption told))) refl refl refl)
+    (of-country _ _ _ room x _ _ _ (in-country (x .phase) _ (sym here ∙ ap factsOption told)) (c1 .read .ensures .settings-are (c2 .if2 .left)) (c .country .ensures))
     (country-within _ _ _ _ (c1 .read .ensures .within) _ _ _ (c .country .ensures))
 
 pub country-choice-spec : {M : Type 1} → statement M
@@ -120,13 +116,13 @@ country-choice-spec =
     are-bad-requires
     no-choice-requires
     returns
-    awaiting-requires
     slice-aggregate-read
     slice-aggregate-read-2
     read-requires
     no-choice-requires-2
     returns-2
-    enum-known-phase
+    enum-known-awaited
+    enum-told
     no-choice-requires-3
     returns-3
     slice-aggregate-country

@@ -19,7 +19,7 @@ use Rattle.record.specs.Line.{Line}
 use Rattle.rules.specs.Call.{lastTime, start, startNumbersFit}
 use Rattle.rules.specs.Refusals.{hasNoRoom, isAllowed, isHeldFull, isHomeAbroad, isLong, isMalformed, isOutOfRange, isSpiTaken}
 use Rattle.step.proofs.Steps.{accepted, held-full, untimely}
-use Rattle.attempt.specs.Lent.{factsOption}
+use Rattle.phase.specs.Awaited.{factsOption}
 use Rattle.attempt.proofs.Choosing.{chooses, refuses}
 use Rattle.attempt.proofs.Outcomes.{of-start}
 use Rattle.attempt.proofs.Texts.{Tested, by-own, tested}

@@ -5,7 +5,8 @@ use Rattle.octets.specs.Refusal.{refusal}
 use Rattle.octets.specs.Row.{isSome}
 use Rattle.config.specs.Settings.{parsed}
 use Rattle.rules.specs.Refusals.{isHomeAbroad}
-use Rattle.attempt.specs.Lent.{factsOption, readRefusals}
+use Rattle.phase.specs.Awaited.{factsOption}
+use Rattle.attempt.specs.Lent.{readRefusals}
 use Rattle.attempt.proofs.lent.refusal_of.Statement.{statement}
 use Rattle.attempt.proofs.lent.refusal_of.Tie as tie
 

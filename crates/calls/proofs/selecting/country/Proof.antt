@@ -1,7 +1,7 @@
 -- `calls::selecting::country` meets its contract.
 use Prim.Native.Nat.{ℕ}
 use mathlib.Core.Bool.{Bool}
-use mathlib.Core.Path.{refl, sym}
+use mathlib.Core.Path.{refl}
 use denote.Ref.{now}
 use lib.Dec.{ltb}
 use lib.ListN.{length}
@@ -30,7 +30,7 @@ module _ (c : tie.After-country-choice) where
   chosen : (room : ℕ) → Chooses (c .country-choice .result) (country (given .args .replied) (now (given .args .networks)) (now (given .args .text)) room) (ltb lastTime (given .args .time))
       (current (given .args .time) (lineFrom (slot (now (given .args .table)) (c .before .before .before .before .before .enter .result .at)))) (now (given .args .text))
   unfolding current inForce withHolds
-  chosen room = c .country-choice .ensures _ room (sym (c .before .phase-at .ensures))
+  chosen room = c .country-choice .ensures _ room (c .before .awaited-at .ensures)
 
 enter-requires : tie.Need-enter-requires
 enter-requires c κs = search needs
@@ -51,8 +51,8 @@ returns c =
     let first = c .before .before .before .before .before in
     turned-away-named _ _ _ (country _ _ _ _) _ _ _ refl _ _ _ (first .before .before .enter .ensures) (first .if1 .taken) _ _ _ (away .0) (away .1 .1) (away .1 .0)
 
-phase-at-requires : tie.Need-phase-at-requires
-phase-at-requires c κs = c .before .before .before .enter .ensures .passes (c .before .if1 .left) .stands .used
+awaited-at-requires : tie.Need-awaited-at-requires
+awaited-at-requires c κs = c .before .before .before .enter .ensures .passes (c .before .if1 .left) .stands .used
 
 country-choice-requires : tie.Need-country-choice-requires
 country-choice-requires c κs = search needs
@@ -83,7 +83,7 @@ country-spec =
     same-length
     same-length-2
     returns
-    phase-at-requires
+    awaited-at-requires
     country-choice-requires
     finish-requires
     same-length-3
