@@ -88,16 +88,6 @@ module _ (tenant line time : ℕ) (e : Event) (short : Bool) (l : List ℕ) (r :
   comes passes put y from f is x same n numbers table number action stored =
       rw (number, action, stored, sym same) (ap (λ (g : Effect). resultBy (withLine g (put (g .line))) (r .pair) l) is ∙ sym from ∙ sym (passes .result-is e room-is))
 
-  -- the same of a step's answer, of which the phase alone is stored
-  pub moved : Passes r tenant line time short l → {y z : Line} → From e time (r .pair) l own y (phased found) → z ≡ y → (s : Stepped) (part buffer : List ℕ)
-      → effectIn s part buffer ≡ effect e time z → {m : Moved} → m ≡ record { refusal = s .refusal; phase = s .line .phase; action = s .action } → (n : ℕ) (numbers table : List ℕ)
-      → n ≡ m .refusal → numbers ≡ numbersOf (m .action) → table ≡ storedBy (m .refusal) (r .pair) (inPhase found (m .phase)) l
-      → returned n numbers part buffer table ≡ run (timed tenant line time e) l
-  unfolding effectIn lineOf
-  moved passes from read s part buffer is moves n numbers table number action stored =
-      comes passes (phased found) _ from (effectIn s part buffer) (is ∙ ap (effect e time) read) _ refl n numbers table (number ∙ ap (λ (m : Moved). m .refusal) moves)
-      (action ∙ ap (λ (m : Moved). numbersOf (m .action)) moves) (stored ∙ ap (λ (m : Moved). storedBy (m .refusal) (r .pair) (inPhase found (m .phase)) l) moves)
-
   -- the same where the line's own phase goes on to that of the step's answer, and only where it stands is stored, with another change
   pub gone : Passes r tenant line time short l → (put change : Line → Line) (y : Line) → From e time (r .pair) l own y put → Continues (own .phase) (effect e time y .line .phase)
       → (f : Effect) → f ≡ effect e time y → put (f .line) ≡ change (inPhase found (restored (own .phase) (f .line .phase)))
@@ -141,14 +131,6 @@ module _ (tenant line time : ℕ) (e : Event) (short : Bool) (l : List ℕ) (r :
     unfolding partNamed lentIn part zeros
     turned-away-named enters h n numbers buffer number none cleared =
         rw none (turned-away enters h n (zeros numberCount) buffer number refl cleared, omega arith)
-
-    pub moved-named : Passes r tenant line time short l → {y z : Line} → From e time (r .pair) l own y (phased found) → z ≡ y → (s : Stepped) (buffer : List ℕ)
-        → effectIn s (partNamed (numbersOf (s .action)) text name packet) buffer ≡ effect e time z → PartWithin (numbersOf (s .action)) text name packet
-        → {m : Moved} → m ≡ record { refusal = s .refusal; phase = s .line .phase; action = s .action } → (n : ℕ) (numbers table : List ℕ)
-        → n ≡ m .refusal → numbers ≡ numbersOf (m .action) → table ≡ storedBy (m .refusal) (r .pair) (inPhase found (m .phase)) l → Named n numbers buffer table
-    moved-named passes from read s buffer is within moves n numbers table number action stored =
-        let told = action ∙ ap (λ (m : Moved). numbersOf (m .action)) moves in
-        rw told (moved passes from read s (partNamed (numbersOf (s .action)) text name packet) buffer is moves n (numbersOf (s .action)) table number (sym told ∙ action) stored, within)
 
     pub stood-named : kindOf e ≡ move → Passes r tenant line time short l → (s : Stepped) (buffer : List ℕ) → {z : Line} → z ≡ unheld (bare (own .phase)) []
         → effectIn s (partNamed (numbersOf (s .action)) text name packet) buffer ≡ effect e time z → PartWithin (numbersOf (s .action)) text name packet

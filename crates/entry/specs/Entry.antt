@@ -78,12 +78,3 @@ lineEntry l = entryOf (pieces tabCode l)
 -- the numbers of a PLMN have three digits at most
 abbrev pub Small : Plmn → Type 0
 Small p = (p .mcc < 1000) × (p .mnc < 1000)
-
--- the numbers of what an entry lists
-abbrev pub Bounded : Entry → Type 0
-Bounded (Home p) = Unit {0}
-Bounded (Name n) = Unit {0}
-Bounded (Node a) = Unit {0}
-Bounded (Preference p) = Small (p .plmn) × (p .priority < 256)
-Bounded (Bar p) = Small p
-Bounded Bad = Unit {0}

@@ -1,13 +1,13 @@
-// Slices of octets: cleared, copied, compared, and a part handed back.
+// Slices of octets: cleared, copied, tested, and a part handed back.
 use crate::number::wide;
 ghost use mathlib.Core.Bool.{true};
 ghost use mathlib.Core.Path.{_≡_};
-ghost use Prim.Native.Nat.{_+_, _-_, _≤_};
+ghost use Prim.Native.Nat.{_+_, _≤_};
 ghost use lib.ListN.{length};
 ghost use Rattle.octets.specs.Digits.{low};
 ghost use Rattle.octets.specs.Laws.{below};
-ghost use Rattle.octets.specs.Part.{octetIs, part, same, zeros, zerosAt, Wrote};
-ghost use Rattle.octets.specs.Search.{allOf, least};
+ghost use Rattle.octets.specs.Part.{part, zeros, zerosAt, Wrote};
+ghost use Rattle.octets.specs.Search.{allOf};
 
 // Fills a slice with zeros.
 pub fn zero(s: &mut [u8])
@@ -30,23 +30,6 @@ pub fn copy(src: &[u8], dst: &mut [u8], at: usize)
         dst[at + i] = src[i];
         i += 1;
     }
-}
-
-// Whether two slices hold the same octets.
-pub fn same(a: &[u8], b: &[u8]) -> bool
-    ensures { λ r. ⌜ r ≡ same (now (a .entry)) (now (b .entry)) ⌝ }
-{
-    if a.len() != b.len() {
-        return false;
-    }
-    let mut i = 0;
-    while i < a.len() {
-        if a[i] != b[i] {
-            return false;
-        }
-        i += 1;
-    }
-    true
 }
 
 // Eight octets as one number, the first of them lowest, and the promise that they are octets; a sum without brackets is compiled to one load.
@@ -103,19 +86,4 @@ pub fn part(s: &[u8], at: usize, n: usize) -> &[u8]
     ensures { λ r. ⌜ (now r ≡ part (now (s .entry)) at n) × (length (now r) ≡ n) ⌝ }
 {
     &s[at..at + n]
-}
-
-// The first place from `from` on that holds x, or `to` where none before it does.
-pub fn find(s: &[u8], from: usize, to: usize, x: u8) -> usize
-    requires { ⌜ (from ≤ to) × (to ≤ length (now s)) ⌝ }
-    ensures { λ r. ⌜ (r ≡ from + least (to - from) (octetIs (now (s .entry)) from x)) × (from ≤ r) × (r ≤ to) ⌝ }
-{
-    let mut i = from;
-    while i < to {
-        if s[i] == x {
-            return i;
-        }
-        i += 1;
-    }
-    i
 }

@@ -134,12 +134,7 @@ module _ (e : Event) (time pair : ℕ) (l : List ℕ) (x : Line) where
       go zero = ap (returned zero) (s .outcomes)
       go (suc n) = refl
 
-  -- selection needs all but the children, and changes the phase alone
-  pub selected-alone : kindOf e ≡ selection → From (withChildren x []) (phased found)
-  unfolding current inPhase withChildren withHolds
-  selected-alone h = from-same _ (phased found) (subst (λ (k : Kind). ByKind k e) h (by-kind e) found (withChildren found []))
-
-  -- the same on a line in the bare phase
+  -- what an event does on a line in the bare phase
   from-bare : (y : Line) (put : Line → Line) → Bare e found (current time y) put → From y put
   from-bare y put b = from-same y put (record { tests = b .tests; outcomes = b .moves .says })
 
