@@ -24,7 +24,7 @@ use Rattle.rules.specs.Refusals.{refusalsOf}
 use Rattle.selection.specs.declared.Choice.{Choice}
 use Rattle.selection.specs.declared.Choice.the-variants as Choice
 use Rattle.attempt.specs.declared.Move.{Move}
-use Rattle.attempt.specs.declared.choice.Chosen.{Chosen}
+use Rattle.attempt.specs.declared.choice.Selected.{Selected}
 
 -- what S5 found is the phase and the action, on every line
 abbrev pub Comes : Move → Found → Type 0
@@ -42,13 +42,13 @@ pub record Says (r : Move) (x : Line) (o : Outcome) (text name : List ℕ) (room
 abbrev pub HoldTold : Bool → Choice → List Hold → Type 0
 HoldTold held c hs = (a : Address) → c ≡ Choice.Address a → held ≡ stands a (heldAddresses hs)
 
--- what the code's choice says of an event on a line as a call finds it: the refusal number, and where that is 0 that the event comes to what is decided by the choice
-pub record Chooses (r : Chosen) (e : Event) (out : Bool) (x : Line) (text : List ℕ) : Type 0 where
+-- what the code's choice says of an event on a line as a call finds it: the refusal number, where that is 0 that the event comes to what is decided by the choice, and that a name in the text lies within it
+pub record Selects (r : Selected) (e : Event) (out : Bool) (x : Line) (text : List ℕ) : Type 0 where
   pub refusal-is : refusal (refusalsOf e out x) ≡ r .refusal
   pub outcome-is : r .refusal ≡ 0 → outcome e x ≡ decided x (r .facts) text (r .choice)
   pub within : TextWithin text (r .choice)
 
--- the event comes to the code's answer, whose part lies in the lent octets
+-- the event comes to the code's answer, whose part lies in the lent octets and whose lists lie in their arrays
 abbrev pub Answers : Event → ℕ → Record → Stepped → List ℕ → List ℕ → Type 0
 Answers e time line r text name =
     (effectIn r (partNamed (numbersOf (r .action)) text name []) name ≡ effect e time (lineOf line))

@@ -24,20 +24,20 @@ ghost use Rattle.record.specs.Line.{Line};
 ghost use Rattle.rules.specs.Call.{country, lastTime, start};
 ghost use Rattle.rules.specs.Refusals.{badNetworks};
 ghost use Rattle.selection.specs.declared.Choice.the-variants.{Stop};
-ghost use Rattle.attempt.specs.Attempt.{Chooses};
+ghost use Rattle.attempt.specs.Attempt.{Selects};
 
 // What selection came to: the refusal number from 8 to 13 or 0, and where that is 0 the place facts of the attempt and the choice.
-pub struct Chosen {
+pub struct Selected {
     pub refusal: u64,
     pub facts: Facts,
     pub choice: Choice,
 }
 
 // A refusal, with nothing chosen.
-fn no_choice(number: u64) -> Chosen
+fn no_choice(number: u64) -> Selected
     ensures { λ r. ⌜ (r .refusal ≡ number) × (r .choice ≡ Stop 0) ⌝ }
 {
-    Chosen {
+    Selected {
         refusal: number,
         facts: Facts {
             place: Place::Unknown,
@@ -55,8 +55,8 @@ pub fn start_choice(
     given: StartNumbers,
     text: &[u8],
     in_force: usize,
-) -> Chosen
-    ensures { λ r. ⌜ ((x : Line) (room : ℕ) → x .phase ≡ phase → length (x .holds) ≡ «in_force» → Chooses r (start given (now (text .entry)) room) (ltb lastTime time) x (now (text .entry))) ⌝ }
+) -> Selected
+    ensures { λ r. ⌜ ((x : Line) (room : ℕ) → x .phase ≡ phase → length (x .holds) ≡ «in_force» → Selects r (start given (now (text .entry)) room) (ltb lastTime time) x (now (text .entry))) ⌝ }
 {
     if is_late(time) | !numbers_fit(given) {
         return no_choice(8);
@@ -76,7 +76,7 @@ pub fn start_choice(
     }
     let config = lent.config;
     let choice = selection::start(config, &preferred, &barred, facts);
-    Chosen {
+    Selected {
         refusal: 0,
         facts,
         choice,
@@ -103,8 +103,8 @@ pub fn country_choice(
     replied: u64,
     networks: &[u8],
     text: &[u8],
-) -> Chosen
-    ensures { λ r. ⌜ ((x : Line) (room : ℕ) → factsOption awaited ≡ awaitedIn (x .phase) → Chooses r (country replied (now (networks .entry)) (now (text .entry)) room) (ltb lastTime time) x (now (text .entry))) ⌝ }
+) -> Selected
+    ensures { λ r. ⌜ ((x : Line) (room : ℕ) → factsOption awaited ≡ awaitedIn (x .phase) → Selects r (country replied (now (networks .entry)) (now (text .entry)) room) (ltb lastTime time) x (now (text .entry))) ⌝ }
 {
     if is_late(time) | are_bad(replied, networks) {
         return no_choice(8);
@@ -120,7 +120,7 @@ pub fn country_choice(
     };
     let config = lent.config;
     let choice = selection::country(config, &preferred, &barred, facts, replied == 1, networks);
-    Chosen {
+    Selected {
         refusal: 0,
         facts,
         choice,

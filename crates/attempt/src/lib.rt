@@ -3,7 +3,7 @@ pub mod choice;
 mod given;
 mod lent;
 
-use crate::choice::Chosen;
+use crate::choice::Selected;
 use crate::choice::country_choice;
 use crate::choice::start_choice;
 use address::HOLDS;
@@ -51,7 +51,7 @@ ghost use Rattle.rules.specs.Answer.{eventRoom, numbersOf, partNamed, PartWithi
 ghost use Rattle.rules.specs.Call.{address, country, lastTime, start, Event};
 ghost use Rattle.rules.specs.Life.{decided};
 ghost use Rattle.step.specs.Step.{effect, effectIn};
-ghost use Rattle.attempt.specs.Attempt.{answeredOn, Answers, Chooses, Comes, HoldTold, Says};
+ghost use Rattle.attempt.specs.Attempt.{answeredOn, Answers, Comes, HoldTold, Says, Selects};
 
 // The phase that a line goes to, and what the daemon has to do.
 pub struct Move {
@@ -118,9 +118,9 @@ fn is_choice_held(choice: Choice, holds: [Hold; HOLDS], n: usize) -> bool
 }
 
 // What a choice leaves of a line, which was found without its ended holds: it is refused, or goes on.
-fn finished(line: Record, found: Record, chosen: Chosen, text: &[u8], name: &mut [u8]) -> Stepped
+fn finished(line: Record, found: Record, chosen: Selected, text: &[u8], name: &mut [u8]) -> Stepped
     requires { ⌜ InArrays line × InArrays found × TextWithin (now text) (chosen .choice) × (nameRoom ≤ length (now name)) ⌝ }
-    ensures { λ r. ⌜ ((e : Event) (time : ℕ) → length (now (name .entry)) ≡ eventRoom e → lineOf found ≡ current time (lineOf line) → Chooses chosen e (ltb lastTime time) (lineOf found) (now (text .entry)) → Answers e time line r (now (text .entry)) (now (name .exit))) ⌝ }
+    ensures { λ r. ⌜ ((e : Event) (time : ℕ) → length (now (name .entry)) ≡ eventRoom e → lineOf found ≡ current time (lineOf line) → Selects chosen e (ltb lastTime time) (lineOf found) (now (text .entry)) → Answers e time line r (now (text .entry)) (now (name .exit))) ⌝ }
 {
     if chosen.refusal != 0 {
         zero(name);

@@ -21,7 +21,7 @@ use Rattle.rules.specs.declared.Action.the-variants as Action
 use Rattle.step.specs.Laws.{resultBy, storedBy}
 use Rattle.step.specs.Step.{Effect, effect, outcomeBy}
 use Rattle.step.proofs.Steps.{less-none}
-use Rattle.attempt.specs.Attempt.{Chooses, Says}
+use Rattle.attempt.specs.Attempt.{Selects, Says}
 use Rattle.attempt.specs.declared.Move.{Move}
 use Rattle.frame.specs.Entering.{Passes}
 use Rattle.frame.specs.declared.Entered.{Entered}

@@ -1,7 +1,7 @@
 // From start to the chosen address.
 use crate::refuse;
 use attempt::answered;
-use attempt::choice::Chosen;
+use attempt::choice::Selected;
 use attempt::choice::country_choice;
 use attempt::choice::start_choice;
 use attempt::decided;
@@ -55,7 +55,7 @@ fn finish(
     table: &mut [u8],
     entered: Entered,
     time: u64,
-    chosen: Chosen,
+    chosen: Selected,
     text: &[u8],
     name: &mut [u8],
     answer: &mut [u64; 12],

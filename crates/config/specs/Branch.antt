@@ -1,4 +1,4 @@
--- What the reader's private functions answer, in the terms of `Lines` and `Settings`.
+-- What the reader's private functions answer, in the terms of `Lines`, `Settings` and the fields of `entry`.
 use Prim.Native.Nat.{ℕ, _+_, _*_, _/_, _%_, _≤_, _<_}
 use mathlib.Core.Bool.{Bool, true, false, _&&_}
 use mathlib.Core.List.{List, [], _∷_, _++_, map}
@@ -12,7 +12,7 @@ use Rattle.entry.specs.Entry.{beforeName}
 use Rattle.entry.specs.Field.{isNameCharacter, plmnOf, priorityOf}
 use Rattle.entry.specs.declared.Entry.the-variants.{Home}
 use Rattle.config.specs.Lines.{entriesFrom, lineEnd}
-use Rattle.config.specs.Settings.{accepted, afterNode, asListed, configOf, firstNode, listedIn, mostListed, plmnIn, rest, section, NodeWithin, Within}
+use Rattle.config.specs.Settings.{accepted, afterNode, asListed, configOf, firstNode, listedIn, plmnIn, rest, section, NodeWithin, Within}
 use Rattle.config.specs.declared.Config.{Config}
 use Rattle.config.specs.declared.list.Kind.{Kind}
 use Rattle.config.specs.declared.list.Listed.{Listed}
@@ -20,7 +20,7 @@ use Rattle.config.specs.declared.list.Listed.the-variants.{Is, Not}
 use Rattle.config.specs.declared.list.Section.{Section}
 use Rattle.config.specs.declared.parse.Noded.{Noded}
 
--- what the code's answer says of the listed entries from a place on
+-- what the code's answer says of the entry of a kind at a place
 abbrev pub ListedIs : Kind → List ℕ → ℕ → Listed → Type 0
 ListedIs kind text at (Is x next) =
     (section (asListed kind) (entriesFrom text at) ≡ listedIn x ∷ section (asListed kind) (entriesFrom text next))
@@ -55,7 +55,7 @@ abbrev pub PriorityIs : List ℕ → ℕ → Listed → Type 0
 PriorityIs text at (Is x next) = (c : List ℕ) × (drop at text ≡ c ++ 10 ∷ drop next text) × (next ≤ length text) × (priorityOf c ≡ some x)
 PriorityIs text at Not = (c m : List ℕ) (x : ℕ) → drop at text ≡ c ++ 10 ∷ m → priorityOf c ≡ some x → ⊥
 
--- what the code's answer says of `home` at the start of a text
+-- what the code's answer says of a text that begins with `home`; where none is found, the text is not well formed
 abbrev pub HomeIs : List ℕ → Listed → Type 0
 HomeIs text (Is x next) = (entriesFrom text 0 ≡ Home (plmnKept x) ∷ entriesFrom text next) × (next ≡ lineEnd text 0 + 1) × (next ≤ length text)
 HomeIs text Not = none ≡ configOf text
@@ -83,7 +83,7 @@ pub record NodeBegins (l : List ℕ) (at : ℕ) (kind : List ℕ) (start : ℕ) 
   pub begins : drop at l ≡ text "node" ++ 9 ∷ (kind ++ 9 ∷ drop start l)
   pub within : start ≤ length l
 
--- the octets from a place up to another may stand in a node name, and the one there may not
+-- the octets from a place up to another may stand in a node name, and the one there may not, or the text ends there
 pub record NameEndIs (l : List ℕ) (at r : ℕ) : Type 0 where
   pub after : at ≤ r
   pub within : r ≤ length l

@@ -39,9 +39,9 @@ pub fn listed_in(x: u64) -> Preferred
     }
 }
 
-// What stands at a place where a listed entry may begin.
+// What a reader finds at a place.
 pub(crate) enum Listed {
-    // The number that keeps the entry, and where the next line begins.
+    // A number, of which the reader's promise says what it keeps, and the place behind what was read.
     Is(u64, usize),
     // Something else.
     Not,

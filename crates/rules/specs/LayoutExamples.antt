@@ -22,7 +22,7 @@ use Rattle.record.specs.Line.{Line}
 use Rattle.record.specs.Octets.{lineFrom, recordOctets}
 use Rattle.record.specs.Sound.{childrenSound, chosenFree, holdsSound, inRange, isRecord, lineSound, lineWritten}
 use Rattle.response.specs.Response.{outOfRange, writeRefusal}
-use Rattle.table.specs.Table.{pairAt, slot, slotSound}
+use Rattle.table.specs.Table.{slot, slotSound}
 use Rattle.rules.specs.Cases.{firstReply, nas, nasPacket, startPacket, success}
 use Rattle.rules.specs.Computed.{evaluated, slotsAfter}
 
@@ -152,7 +152,7 @@ layouts =
 unfoldable pub layoutGot : Layout → List ℕ
 unfolding askingOctets childFrom childIn childOctets childrenFrom childrenOctets childrenSound childrenWritten chosenFree different endNumber endOf
     evaluated factsFit factsFrom factsOctets factsWritten hasAddress havingFrom havingOctets holdFrom holdIn holdOctets holdsFrom
-    holdsOctets holdsSound holdsWritten inRange isRecord lineFrom lineSound lineWritten outOfRange packetNumbers pairAt
+    holdsOctets holdsSound holdsWritten inRange isRecord lineFrom lineSound lineWritten outOfRange packetNumbers
     parameterAt phaseFits phaseFrom phaseOctets phaseWritten placeFits placeFrom placeOctets placeWritten recordOctets registeredFits
     registeredFrom registeredOctets registeredWritten size slot slotSound slotsAfter spisDiffer turnOctets writeRefusal
 layoutGot e = evaluated (e .gives)

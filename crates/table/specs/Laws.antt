@@ -27,7 +27,7 @@ unfoldable pub mayStand : ℕ → Slot → List Slot → Bool
 mayStand pair s ss = isOf freePair s || isOf pair s || not (isOpen (pairIn s) ss)
 
 pub record Laws : Type 0 where
-  -- which whole tables are sound
+  -- six whole tables, sound and not
   pub examples : map Examples.found Examples.examples ≡ map Examples.said Examples.examples
   -- zeros are a sound table with every slot free
   pub empty-sound : isTable (zeros tableLength) ≡ true

@@ -7,7 +7,7 @@ use lib.Dec.{ltb}
 use lib.ListN.{length}
 use borrow.Author.Needs.{needs}
 use borrow.Author.Tests.{ltb-false}
-use Rattle.attempt.specs.Attempt.{Chooses}
+use Rattle.attempt.specs.Attempt.{Selects}
 use Rattle.frame.specs.Entering.{Passes}
 use Rattle.record.specs.Changes.{current, inForce, withHolds}
 use Rattle.record.specs.Octets.{lineFrom}
@@ -27,7 +27,7 @@ module _ (c : tie.After-start-choice) where
   passes : Passes (c .before .before .before .before .before .before .before .enter .result) (given .args .tenant) (given .args .line) (given .args .time) (ltb (length (now (given .args .name))) 64) (now (given .args .table))
   passes = c .before .before .before .before .before .before .before .enter .ensures .passes (c .before .before .before .before .before .if1 .left)
 
-  chosen : (room : ℕ) → Chooses (c .start-choice .result) (start (startNumbers (given .args .place) (given .args .mcc) (given .args .registered) (given .args .registered-mcc) (given .args .registered-mnc) (given .args .version)) (now (given .args .text)) room) (ltb lastTime (given .args .time))
+  chosen : (room : ℕ) → Selects (c .start-choice .result) (start (startNumbers (given .args .place) (given .args .mcc) (given .args .registered) (given .args .registered-mcc) (given .args .registered-mnc) (given .args .version)) (now (given .args .text)) room) (ltb lastTime (given .args .time))
       (current (given .args .time) (lineFrom (slot (now (given .args .table)) (c .before .before .before .before .before .before .before .enter .result .at)))) (now (given .args .text))
   unfolding current inForce withHolds startNumbers
   chosen room = c .start-choice .ensures _ room (sym (c .before .before .before .phase-at .ensures)) (sym (c .before .in-force-at .ensures))
