@@ -34,10 +34,7 @@ pub enum MaybePlmn {
 pub fn same_plmn(p: Plmn, q: Plmn) -> bool
     ensures { λ r. ⌜ r ≡ samePlmn p q ⌝ }
 {
-    if p.mcc != q.mcc {
-        return false;
-    }
-    p.mnc == q.mnc
+    (p.mcc == q.mcc) & (p.mnc == q.mnc)
 }
 
 // Stores a label from `at` and right after it the last three decimal digits of a code.

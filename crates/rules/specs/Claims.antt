@@ -1,7 +1,7 @@
 -- What is claimed of `run`, for every call, table and history; the function `claims` promises it.
 use Prim.Native.Nat.{ℕ, suc, _≤_, _<_}
 use mathlib.Core.Bool.{Bool, true, false, cond, not, _||_}
-use mathlib.Core.List.{List, [], _∷_, _++_, map}
+use mathlib.Core.List.{List, [], _∷_, _++_}
 use mathlib.Core.Option.{Option, none, some}
 use mathlib.Core.Path.{_≡_}
 use lib.Dec.{eqb, ltb}
@@ -31,25 +31,14 @@ use Rattle.rules.specs.After.{After, LiveBy, PhaseAfter, SureBy, ownReco
 use Rattle.rules.specs.Answer.{Answer, numberCount, numbersOf, roomOf}
 use Rattle.rules.specs.Call.{Event, start, country, address, child-made, child-deleted, Call, opening, closing, listing, timed, factsOf, pairOf, lastTime, listingRoom}
 use Rattle.rules.specs.declared.StartNumbers.{StartNumbers}
-use Rattle.rules.specs.Computed.{got, said}
-use Rattle.rules.specs.Computed as Computed
-use Rattle.rules.specs.FormExamples as FormExamples
 use Rattle.rules.specs.Histories.{answersTo, isOctets, remaining, tableAfter}
-use Rattle.rules.specs.HoldExamples as HoldExamples
 use Rattle.rules.specs.Life.{outcome}
-use Rattle.rules.specs.LayoutExamples as LayoutExamples
-use Rattle.rules.specs.LifeExamples as LifeExamples
 use Rattle.rules.specs.Listing.{listFrom}
-use Rattle.rules.specs.PhaseExamples as PhaseExamples
 use Rattle.rules.specs.Phases.{factsIn}
-use Rattle.rules.specs.RefusalExamples as RefusalExamples
 use Rattle.rules.specs.Run.{Result, answerOf, run}
 use Rattle.rules.specs.Refusals.{hasNoRoom, isAllowed, isEarly, isFull, isHeldFull, isMalformed, isNoPair, isNotOpen, isOpenAlready, isOutOfRange, isShort, isSpiTaken, refusals}
 use Rattle.rules.specs.View.{View, fresh, lineFound, ownLine, viewIn}
 use Rattle.rules.specs.OnSlots.{runOn}
-use Rattle.rules.specs.SelectionExamples as SelectionExamples
-use Rattle.rules.specs.SoundExamples as SoundExamples
-use Rattle.rules.specs.Starred as Starred
 
 -- the number that a call gives
 unfoldable pub numberGiven : Call → List ℕ → ℕ
@@ -231,31 +220,9 @@ pub record Claims : Type 0 where
   -- every history leaves a sound table, from the empty one and from any sound one
   pub history-sound : (h : List Call) → allOf isOctets h ≡ true → Good (tableAfter h (zeros tableLength))
   pub history-sound-from : (h : List Call) (l : List ℕ) → allOf isOctets h ≡ true → Good l → Good (tableAfter h l)
-  -- 'Life of a line' and 'Listing of one tenant': the histories, the numbers of each action, every event in every phase
-  pub lives : map got LifeExamples.lives ≡ map said LifeExamples.lives
-  pub actions : map numbersOf LifeExamples.actions ≡ LifeExamples.actionNumbers
-  pub phases : map PhaseExamples.phaseGot PhaseExamples.phases ≡ map PhaseExamples.phaseSaid PhaseExamples.phases
-  -- 'Choosing a gateway'
-  pub selections : map got SelectionExamples.selections ≡ map said SelectionExamples.selections
-  -- 'Refusal numbers': the lowest that applies, and the ranges for 8
-  pub lowest : map got RefusalExamples.lowest ≡ map said RefusalExamples.lowest
-  pub ranges : map got RefusalExamples.ranges ≡ map said RefusalExamples.ranges
-  -- well-formed and ill-formed texts and packets, and children
-  pub forms : map got FormExamples.forms ≡ map said FormExamples.forms
-  -- holds, and those that histories leave
-  pub holdings : map got HoldExamples.holdings ≡ map said HoldExamples.holdings
-  pub kept : map HoldExamples.keptGot HoldExamples.kept ≡ map HoldExamples.keptSaid HoldExamples.kept
-  -- lines on both sides of each condition of a sound one
-  pub sounds : map SoundExamples.soundGot SoundExamples.sounds ≡ map SoundExamples.soundSaid SoundExamples.sounds
-  -- octets as docs/TABLE.md and the documents lay them down
-  pub layouts : map LayoutExamples.layoutGot LayoutExamples.layouts ≡ map LayoutExamples.layoutSaid LayoutExamples.layouts
   -- if the same calls remain after striking out the other tenants' calls that are neither open nor close, a tenant gets the same answers
   pub isolation : (a : ℕ) (g h : List Call) → allOf isOctets g ≡ true → allOf isOctets h ≡ true → remaining a g ≡ remaining a h
       → answersTo a g (zeros tableLength) ≡ answersTo a h (zeros tableLength)
   -- the same from any two tables that are alike to the tenant
   pub isolation-from : (a : ℕ) (g h : List Call) → allOf isOctets g ≡ true → allOf isOctets h ≡ true → remaining a g ≡ remaining a h
       → (l m : List ℕ) → Alike a l m → answersTo a g l ≡ answersTo a h m
-  -- the numbers that examples compute are the definitions' own
-  pub evaluated : (l : List ℕ) → Computed.evaluated l ≡ l
-  -- document 01's starred examples
-  pub starred : map Starred.starredGot Starred.starred ≡ map Starred.starredSaid Starred.starred

@@ -9,16 +9,5 @@ pub mod Listing
 pub mod Run
 pub mod Histories
 pub mod OnSlots
-pub mod Computed
-pub mod Cases
-pub mod LifeExamples
-pub mod PhaseExamples
-pub mod SelectionExamples
-pub mod RefusalExamples
-pub mod FormExamples
-pub mod HoldExamples
-pub mod SoundExamples
-pub mod LayoutExamples
-pub mod Starred
 pub mod After
 pub mod Claims

@@ -1,8 +1,8 @@
 -- The laws of records by number.
 use Prim.Native.Nat.{ℕ, _+_, _≤_, _<_}
-use mathlib.Core.Bool.{true, false, _&&_}
+use mathlib.Core.Bool.{Bool, true, false, _&&_}
 use mathlib.Core.List.{List}
-use mathlib.Core.Path.{_≡_, sym, ap, _∙_, subst}
+use mathlib.Core.Path.{_≡_, refl, sym, ap, _∙_, subst}
 use native.Mathlib.Numerals.{add-one}
 use native.Mathlib.Omega.{arith}
 use lib.Dec.{eqb}
@@ -33,14 +33,14 @@ module _ (l : List ℕ) where
   wrong-length h = sym (rw (ne-eqb (length l) tableLength h))
 
   module _ (size : length l ≡ tableLength) (i : ℕ) where
-    pub bad-slot : i < 32 → slotSound l i ≡ false → false ≡ isTable l
+    -- a record that is not sound, or whose pair a record before it has
+    pub bad-record : i < 32 → slotSound l i && pairOnce l i ≡ false → false ≡ isTable l
     unfolding isTable
-    bad-slot h e = sym (rw (eq-eqb (length l) tableLength size, all-fails 32 (slotSound l) i h e))
-
-    pub pair-twice : i < 32 → pairOnce l i ≡ false → false ≡ isTable l
-    unfolding isTable
-    pair-twice h e =
-        sym (and-false (eqb (length l) tableLength && all 32 (slotSound l)) (all 32 (pairOnce l)) (all-fails 32 (pairOnce l) i h e))
+    bad-record h e = sym (rw (eq-eqb (length l) tableLength size) (go (slotSound l i) refl e))
+      where
+        go : (b : Bool) → slotSound l i ≡ b → b && pairOnce l i ≡ false → all 32 (slotSound l) && all 32 (pairOnce l) ≡ false
+        go true q f = and-false (all 32 (slotSound l)) (all 32 (pairOnce l)) (all-fails 32 (pairOnce l) i h f)
+        go false q f = rw (all-fails 32 (slotSound l) i h q)
 
     pub all-sound : i ≡ 32 → all i (slotSound l) ≡ true → all i (pairOnce l) ≡ true → true ≡ isTable l
     unfolding isTable

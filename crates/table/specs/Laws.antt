@@ -1,7 +1,7 @@
 -- What holds of the table's octets and of its slots, for every table, pair and line; the function `laws` promises it.
 use Prim.Native.Nat.{ℕ, _≤_, _<_}
 use mathlib.Core.Bool.{Bool, true, false, not, _&&_, _||_}
-use mathlib.Core.List.{List, map}
+use mathlib.Core.List.{List}
 use mathlib.Core.Option.{none, some}
 use mathlib.Core.Path.{_≡_}
 use lib.Dec.{leb, ltb}
@@ -13,7 +13,6 @@ use Rattle.octets.specs.Row.{isSome}
 use Rattle.record.specs.Laws.{lineStorable}
 use Rattle.record.specs.Octets.{lineFrom}
 use Rattle.record.specs.Sound.{lineSound, mostPairs}
-use Rattle.table.specs.Examples as Examples
 use Rattle.table.specs.Slots.{Slot, Free, Used, isOf, isOpen, lineAt, octetsOf, openPairs, pairIn, pairsOnce, put, replaced, slotLine, slotOctets, slotsOf}
 use Rattle.table.specs.Table.{isTable, pairAt, recordCount, recordOf, slot, tableLength, freePair}
 
@@ -27,8 +26,6 @@ unfoldable pub mayStand : ℕ → Slot → List Slot → Bool
 mayStand pair s ss = isOf freePair s || isOf pair s || not (isOpen (pairIn s) ss)
 
 pub record Laws : Type 0 where
-  -- six whole tables, sound and not
-  pub examples : map Examples.found Examples.examples ≡ map Examples.said Examples.examples
   -- zeros are a sound table with every slot free
   pub empty-sound : isTable (zeros tableLength) ≡ true
   pub empty-free : slotsOf (zeros tableLength) ≡ replicate recordCount Free

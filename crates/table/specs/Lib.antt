@@ -1,6 +1,6 @@
 -- The table of records.
 pub mod Table
+pub mod Seen
 pub mod Stores
 pub mod Slots
-pub mod Examples
 pub mod Laws

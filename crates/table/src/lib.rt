@@ -35,7 +35,7 @@ use standing::Standing;
 ghost use mathlib.Core.List.{[], _∷_, _++_};
 ghost use mathlib.Core.Option.{some};
 ghost use mathlib.Core.Path.{_≡_};
-ghost use Prim.Native.Nat.{_+_, _*_, _≤_, _<_};
+ghost use Prim.Native.Nat.{ℕ, _+_, _*_, _≤_, _<_};
 ghost use lib.ListN.{length, take};
 ghost use Rattle.octets.specs.Digits.{field};
 ghost use Rattle.octets.specs.Part.{zeros, Wrote};
@@ -54,8 +54,9 @@ ghost use Rattle.record.specs.Changes.{current, heldFor, inForce, inPhase, unhe
 ghost use Rattle.record.specs.Line.{lineOf, InArrays};
 ghost use Rattle.record.specs.Octets.{lineFrom, recordLength, recordOctets};
 ghost use Rattle.table.specs.Laws.{Laws};
+ghost use Rattle.table.specs.Seen.{Passes, Seen};
 ghost use Rattle.table.specs.Stores.{GoesAt};
-ghost use Rattle.table.specs.Table.{hasPair, isTable, pairAt, recordCount, recordOf, slot, slotSound, tableLength, UsedAt};
+ghost use Rattle.table.specs.Table.{hasPair, isTable, pairAt, recordCount, recordOf, slot, tableLength, UsedAt};
 
 // How many records a table has, and how many octets.
 pub const RECORDS: usize = 32;
@@ -107,18 +108,27 @@ pub fn record_of(table: &[u8], pair: u64) -> usize
     find(table, RECORDS, pair)
 }
 
-// Whether a record is free or sound.
-fn is_slot(table: &[u8], i: usize) -> bool
-    requires { ⌜ recordLength * i + recordLength ≤ length (now table) ⌝ }
-    ensures { λ r. ⌜ r ≡ slotSound (now (table .entry)) i ⌝ }
+// Whether the record at a place is free, or sound and of a pair that no record before it has; its pair is flagged.
+fn is_next(table: &[u8], at: usize, seen: &mut [bool; FLAGS]) -> bool
+    requires { ⌜ at + recordLength ≤ length (now table) ⌝ }
+    ensures { λ r. ⌜ ((i : ℕ) → at ≡ recordLength * i → Seen (now (table .entry)) i (now (seen .entry)) → Passes (now (table .entry)) i r (now (seen .exit))) ⌝ }
 {
-    if pair_at(table, i) == FREE_PAIR {
-        return zeros_at(table, RECORD * i, RECORD);
+    let pair = get(table, at, 1);
+    if pair == FREE_PAIR {
+        return zeros_at(table, at, RECORD);
     }
-    is_record(part(table, RECORD * i, RECORD))
+    if PAIRS < pair {
+        return false;
+    }
+    let place = pair as usize;
+    if seen[place] {
+        return false;
+    }
+    seen[place] = true;
+    is_record(part(table, at, RECORD))
 }
 
-// Whether a table is sound.
+// Whether a table is sound; its records are walked by their places, which takes fewer instructions than by their numbers.
 pub fn is_sound(table: &[u8]) -> bool
     ensures { λ r. ⌜ r ≡ isTable (now (table .entry)) ⌝ }
 {
@@ -126,21 +136,12 @@ pub fn is_sound(table: &[u8]) -> bool
         return false;
     }
     let mut seen = [false; FLAGS];
-    let mut i = 0;
-    while i < RECORDS {
-        let pair = pair_at(table, i);
-        if PAIRS < pair {
+    let mut at = 0;
+    while at < TABLE {
+        if !is_next(table, at, &mut seen) {
             return false;
         }
-        let place = pair as usize;
-        if (pair != FREE_PAIR) & seen[place] {
-            return false;
-        }
-        seen[place] = true;
-        if !is_slot(table, i) {
-            return false;
-        }
-        i += 1;
+        at += RECORD;
     }
     true
 }

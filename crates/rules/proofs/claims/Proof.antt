@@ -1,16 +1,6 @@
 -- `rules::claims` meets its contract: each claim is proved below proofs/.
 use Rattle.response.proofs.Round.{write-read, read-write}
 use Rattle.response.proofs.Writing.{accepted, response-fits}
-use Rattle.rules.specs.Computed.{evaluated-is}
-use Rattle.rules.specs.FormExamples.{forms-computed}
-use Rattle.rules.specs.HoldExamples.{holds-computed, kept-computed}
-use Rattle.rules.specs.LayoutExamples.{layouts-computed}
-use Rattle.rules.specs.LifeExamples.{actions-computed, lives-computed}
-use Rattle.rules.specs.PhaseExamples.{phases-computed}
-use Rattle.rules.specs.RefusalExamples.{lowest-computed, ranges-computed}
-use Rattle.rules.specs.SelectionExamples.{selections-computed}
-use Rattle.rules.specs.SoundExamples.{sounds-computed}
-use Rattle.rules.specs.Starred.{computed}
 use Rattle.rules.proofs.After.{timed-after}
 use Rattle.rules.proofs.Authenticated.{live-authenticated, sure-succeeded}
 use Rattle.rules.proofs.Histories.{history-sound, history-sound-from}
@@ -65,21 +55,8 @@ returns c = record {
   answer-room = answer-room;
   history-sound = history-sound;
   history-sound-from = history-sound-from;
-  lives = lives-computed;
-  actions = actions-computed;
-  phases = phases-computed;
-  selections = selections-computed;
-  lowest = lowest-computed;
-  ranges = ranges-computed;
-  forms = forms-computed;
-  holdings = holds-computed;
-  kept = kept-computed;
-  layouts = layouts-computed;
-  sounds = sounds-computed;
   isolation = isolation;
   isolation-from = isolation-from;
-  evaluated = evaluated-is;
-  starred = computed;
 }
 
 pub claims-spec : {M : Type 1} → statement M

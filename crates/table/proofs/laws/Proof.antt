@@ -1,5 +1,4 @@
 -- `table::laws` meets its contract: each law is proved below proofs/.
-use Rattle.table.specs.Examples.{examples-computed}
 use Rattle.table.proofs.Empty.{empty-free, empty-sound}
 use Rattle.table.proofs.Lookups.{line-added, line-changed, line-dropped, line-other, open-line}
 use Rattle.table.proofs.Stored.{storable, pair-once, put-here, put-octets, put-others, put-slots, put-sound, written-back}
@@ -9,7 +8,6 @@ use Rattle.table.proofs.laws.Tie as tie
 
 returns : tie.Need-returns
 returns c = record {
-  examples = examples-computed;
   empty-sound = empty-sound;
   empty-free = empty-free;
   pair-once = pair-once;

@@ -15,15 +15,15 @@ use Rattle.phase.specs.Facts.{factsFit, factsFrom, factsWritten}
 use Rattle.phase.specs.Phase.{havingFrom, phaseFits, phaseFrom, phaseWritten}
 use Rattle.record.specs.Octets.{lineFrom}
 use Rattle.record.specs.Sound.{childrenSound, chosenFree, holdsSound, inRange, isRecord, lineSound, lineWritten}
 use Rattle.table.specs.Table.{hasPair, isTable, lacksPair, pairAt, pairOnce, slot, slotSound}
 
 -- a table, and whether document 01 calls it sound
-pub record Example : Type 0 where
+pub record TableExample : Type 0 where
   pub table : List ℕ
   pub sound : Bool
 
-unfoldable pub examples : List Example
-examples =
+unfoldable pub tables : List TableExample
+tables =
     record { table = zeros 7776; sound = true }
     -- a record too few, an octet too many, and a free record that is not zeros
     ∷ record { table = zeros 7533; sound = false }
@@ -34,15 +34,15 @@ examples =
     ∷ record { table = zeros 7290 ++ 1 ∷ zeros 242 ++ 1 ∷ zeros 242; sound = false }
     ∷ []
 
-unfoldable pub found : Example → Bool
+unfoldable pub tableGot : TableExample → Bool
 unfolding all allOf anyOf childFrom childIn childrenFrom childrenSound childrenWritten chosen chosenFree different distinct factsFit factsFrom factsWritten field hasAddress hasPair
     havingFrom holdFrom holdIn holdsFrom holdsSound holdsWritten inRange isIn isRecord isTable lacksPair lineFrom lineSound lineWritten number numberFrom pairAt
     pairOnce part phaseFits phaseFrom phaseWritten row same slot slotSound spisDiffer zeros zerosAt
-found e = isTable (e .table)
+tableGot e = isTable (e .table)
 
-unfoldable pub said : Example → Bool
-said e = e .sound
+unfoldable pub tableSaid : TableExample → Bool
+tableSaid e = e .sound
 
-pub examples-computed : map found examples ≡ map said examples
-unfolding examples found said zeros
-examples-computed = refl
+pub tables-computed : map tableGot tables ≡ map tableSaid tables
+unfolding tables tableGot tableSaid zeros
+tables-computed = refl

@@ -10,13 +10,13 @@ use Rattle.address.specs.declared.Address.the-variants.{V4, V6}
 use Rattle.addresses.specs.Addresses.{addressOctets}
 use Rattle.octets.specs.Row.{joined}
 use Rattle.text.specs.Text.{text}
 use Rattle.rules.specs.Answer.{Answer}
 use Rattle.rules.specs.declared.Action.{Action}
 use Rattle.rules.specs.declared.Action.the-variants as Action
 use Rattle.rules.specs.Call.{start, country, address, Call, startNumbers}
 use Rattle.rules.specs.declared.StartNumbers.{StartNumbers}
-use Rattle.rules.specs.Cases.{abroad, abroad6, acts, atHome, atHome6, congest, named, network, node, node6, now, plain, registeredTo, roaming, shown, toIdle, toName, writes}
-use Rattle.rules.specs.Computed.{Example, got, said}
+use Rattle.examples.specs.Cases.{abroad, abroad6, acts, atHome, atHome6, congest, named, network, node, node6, now, plain, registeredTo, roaming, shown, toIdle, toName, writes}
+use Rattle.examples.specs.Computed.{Example, got, said}
 
 -- a stop and a choice leave the name buffer all zeros and the part empty; a built name is both the part and what is written
 unfoldable pub gives : Action → Answer

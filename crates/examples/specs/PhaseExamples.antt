@@ -11,10 +11,10 @@ use Rattle.address.specs.declared.Address.the-variants.{V4}
 use Rattle.addresses.specs.Addresses.{addressOctets}
 use Rattle.table.specs.Slots.{Slot}
 use Rattle.text.specs.Text.{text}
 use Rattle.rules.specs.Call.{Event, start, country, address, begin, init, eap, reply, final, error, congestion, give-up, child-made, child-deleted, ike-delete, Call, startNumbers}
-use Rattle.rules.specs.Cases.{abroad, atHome, nas, nasPacket, network, node, now, own, parameters, roaming, startPacket, success, toAnswered, toAuth, toChosen, toCountry, toFirst, toIdle, toInit, toLive, toName, toOwed, toSure}
-use Rattle.rules.specs.Computed.{evaluated, slotsAfter}
+use Rattle.examples.specs.Cases.{abroad, atHome, nas, nasPacket, network, node, now, own, parameters, roaming, startPacket, success, toAnswered, toAuth, toChosen, toCountry, toFirst, toIdle, toInit, toLive, toName, toOwed, toSure}
+use Rattle.examples.specs.Computed.{evaluated, slotsAfter}
 use Rattle.rules.specs.OnSlots.{runOn}
 
 -- start, country, address, begin, init; EAP Start, NAS, Success of the last reply and of another; reply with AN-parameters and without;
 -- final; error; congestion, authenticated and not; give up; child made; child deleted, present, absent and below 256; IKE delete

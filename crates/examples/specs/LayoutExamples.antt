@@ -23,8 +23,8 @@ use Rattle.record.specs.Octets.{lineFrom, recordOctets}
 use Rattle.record.specs.Sound.{childrenSound, chosenFree, holdsSound, inRange, isRecord, lineSound, lineWritten}
 use Rattle.response.specs.Response.{outOfRange, writeRefusal}
 use Rattle.table.specs.Table.{slot, slotSound}
-use Rattle.rules.specs.Cases.{firstReply, nas, nasPacket, startPacket, success}
-use Rattle.rules.specs.Computed.{evaluated, slotsAfter}
+use Rattle.examples.specs.Cases.{firstReply, nas, nasPacket, startPacket, success}
+use Rattle.examples.specs.Computed.{evaluated, slotsAfter}
 
 -- what the definitions give, and what the documents lay down
 pub record Layout : Type 0 where

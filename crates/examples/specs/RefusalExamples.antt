@@ -8,12 +8,12 @@ use Rattle.octets.specs.Row.{joined, row}
 use Rattle.address.specs.declared.Address.the-variants.{V4, V6}
 use Rattle.addresses.specs.Addresses.{addressOctets}
 use Rattle.text.specs.Text.{text}
 use Rattle.rules.specs.declared.Action.the-variants as Action
 use Rattle.rules.specs.Call.{start, country, address, begin, init, reply, final, error, congestion, give-up, child-made, child-deleted, Call, opening, closing, listing, timed, startNumbers}
 use Rattle.rules.specs.declared.StartNumbers.{StartNumbers}
-use Rattle.rules.specs.Cases.{abroad, acts, atHome, declined, declines, denied, done, firstReply, lists, nas, network, node, now, own, parameters, plain, roaming, shown, toChosen, toCountry, toFirst, toIdle, toLive, toName, toSure, writes, registeredTo}
-use Rattle.rules.specs.Computed.{Example, got, said}
-use Rattle.rules.specs.HoldExamples.{holdEach}
+use Rattle.examples.specs.Cases.{abroad, acts, atHome, declined, declines, denied, done, firstReply, lists, nas, network, node, now, own, parameters, plain, roaming, shown, toChosen, toCountry, toFirst, toIdle, toLive, toName, toSure, writes, registeredTo}
+use Rattle.examples.specs.Computed.{Example, got, said}
+use Rattle.examples.specs.HoldExamples.{holdEach}
 
 -- each of the 64 pairs is opened by its number
 unfoldable pub openPair : ℕ → Call

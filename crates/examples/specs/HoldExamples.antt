@@ -11,11 +11,11 @@ use Rattle.address.specs.declared.Hold.{Hold}
 use Rattle.holds.specs.Holds.{endNumber}
 use Rattle.record.specs.Line.{Line}
 use Rattle.table.specs.Slots.{lineAt}
 use Rattle.rules.specs.Answer.{Answer}
 use Rattle.rules.specs.declared.Action.the-variants as Action
 use Rattle.rules.specs.Call.{start, begin, init, error, congestion, give-up, Call, opening, closing, timed, pairOf, startNumbers}
-use Rattle.rules.specs.Cases.{acts, atHome, atHome6, congest, declines, done, node, node6, nodeAt, now, own, toAuth, toIdle, writes}
-use Rattle.rules.specs.Computed.{Example, evaluated, got, said, slotsAfter}
+use Rattle.examples.specs.Cases.{acts, atHome, atHome6, congest, declines, done, node, node6, nodeAt, now, own, toAuth, toIdle, writes}
+use Rattle.examples.specs.Computed.{Example, evaluated, got, said, slotsAfter}
 
 -- a start by `node`, where its address is held and where it is free
 unfoldable pub startAt : ℕ → Call

@@ -15,10 +15,10 @@ use Rattle.packets.specs.Packets.{PacketAnswer, fieldsOnly, packetReturned, rea
 use Rattle.response.specs.Response.{outOfRange, writeRefusal, writtenPacket}
 use Rattle.text.specs.Text.{text}
 use Rattle.timer.specs.Timer.{timerNumbers}
 use Rattle.rules.specs.Answer.{Answer, twelve}
 use Rattle.rules.specs.Call.{start, address, eap, Call, listing}
-use Rattle.rules.specs.Cases.{atHome, congest, named, node, now, own, shown, toAnswered, toFirst, toIdle, toName}
-use Rattle.rules.specs.Computed.{answersAfter, counted, evaluated}
+use Rattle.examples.specs.Cases.{atHome, congest, named, node, now, own, shown, toAnswered, toFirst, toIdle, toName}
+use Rattle.examples.specs.Computed.{answersAfter, counted, evaluated}
 
 -- what the definitions give, and what document 01 says
 pub record StarredExample : Type 0 where

@@ -5,12 +5,12 @@ use mathlib.Core.List.{List, [], _∷_, _++_, map}
 use mathlib.Core.Path.{_≡_, refl}
 use Rattle.address.specs.Address.{high, low, numberOf, versionOf}
 use Rattle.address.specs.declared.Address.the-variants.{V4, V6}
 use Rattle.rules.specs.Answer.{numbersOf, twelve}
 use Rattle.rules.specs.declared.Action.{Action}
 use Rattle.rules.specs.declared.Action.the-variants as Action
 use Rattle.rules.specs.Call.{Event, start, begin, init, eap, reply, final, error, congestion, give-up, child-made, child-deleted, ike-delete, Call, opening, closing, listing, timed}
-use Rattle.rules.specs.Cases.{acts, atHome, atHome6, declined, done, firstReply, lists, nas, nasPacket, node, node6, nodeAt, now, own, parameters, plain, shown, startPacket, success, toAnswered, toAuth, toChosen, toCountry, toFirst, toIdle, toInit, toLive, toName, toOwed, toSure, writes, laterReply}
-use Rattle.rules.specs.Computed.{Example, got, said}
+use Rattle.examples.specs.Cases.{acts, atHome, atHome6, declined, done, firstReply, lists, nas, nasPacket, node, node6, nodeAt, now, own, parameters, plain, shown, startPacket, success, toAnswered, toAuth, toChosen, toCountry, toFirst, toIdle, toInit, toLive, toName, toOwed, toSure, writes, laterReply}
+use Rattle.examples.specs.Computed.{Example, got, said}
 
 -- a line stands as the listing shows it
 unfoldable pub standing : List Call → String → Example

@@ -8,11 +8,11 @@ use Rattle.octets.specs.Digits.{be}
 use Rattle.octets.specs.Part.{zeros}
 use Rattle.octets.specs.Row.{joined, row}
 use Rattle.text.specs.Text.{digitText, text}
 use Rattle.rules.specs.Answer.{Answer}
 use Rattle.rules.specs.declared.Action.the-variants as Action
 use Rattle.rules.specs.Call.{start, country, eap, reply, child-made, child-deleted, Call, startNumbers}
-use Rattle.rules.specs.Cases.{acts, atHome, declined, declines, nas, now, plain, shown, toAnswered, toAuth, toCountry, toFirst, toIdle, toLive, writes, laterReply}
-use Rattle.rules.specs.Computed.{Example, got, said}
+use Rattle.examples.specs.Cases.{acts, atHome, declined, declines, nas, now, plain, shown, toAnswered, toAuth, toCountry, toFirst, toIdle, toLive, writes, laterReply}
+use Rattle.examples.specs.Computed.{Example, got, said}
 
 -- a start by the records of its text
 unfoldable pub startBy : List String → Call
