@@ -1,9 +1,9 @@
 // Addresses in octets.
 use address::Address;
-use octets::number::get;
-use octets::number::put;
-use octets::slice::word;
-use octets::slice::zeros_at;
+use buffer::number::get;
+use buffer::number::put;
+use buffer::slice::word;
+use buffer::slice::zeros_at;
 ghost use mathlib.Core.Path.{_≡_};
 ghost use Prim.Native.Nat.{_+_, _≤_};
 ghost use lib.ListN.{length};

@@ -7,7 +7,7 @@ use lib.Dec.{ltb}
 use Rattle.octets.specs.Part.{padded, part, zeros}
 use Rattle.octets.specs.Refusal.{refusal}
 use Rattle.record.specs.Changes.{current, inPhase}
-use Rattle.record.specs.Line.{lineOf, InArrays}
+use Rattle.record.specs.Line.{lineOf}
 use Rattle.record.specs.declared.Record.{Record}
 use Rattle.rules.specs.Answer.{eventRoom, lentIn, numbersOf, partNamed, PartWithin, twelve}
 use Rattle.rules.specs.Call.{Event, lastTime}
@@ -15,7 +15,7 @@ use Rattle.rules.specs.Life.{Outcome, outcome}
 use Rattle.rules.specs.Refusals.{refusalsOf}
 use Rattle.rules.specs.declared.Action.{Action}
 use Rattle.rules.specs.declared.Action.the-variants as Action
-use Rattle.step.specs.Step.{Gives, effect, effectIn}
+use Rattle.step.specs.Step.{Gives, effectIn}
 use Rattle.step.specs.declared.Stepped.{Stepped}
 use Rattle.step.proofs.Steps.{taken, turned-away}
 use Rattle.attempt.specs.Attempt.{Answers, Says}

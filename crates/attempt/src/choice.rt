@@ -75,7 +75,7 @@ pub fn start_choice(
         return no_choice(13);
     }
     let config = lent.config;
-    let choice = selection::start(config, &preferred, &barred, facts);
+    let choice = choosing::start(config, &preferred, &barred, facts);
     Selected {
         refusal: 0,
         facts,
@@ -119,7 +119,7 @@ pub fn country_choice(
         return no_choice(10);
     };
     let config = lent.config;
-    let choice = selection::country(config, &preferred, &barred, facts, replied == 1, networks);
+    let choice = choosing::country(config, &preferred, &barred, facts, replied == 1, networks);
     Selected {
         refusal: 0,
         facts,

@@ -6,7 +6,6 @@ use place::Facts;
 use place::Place;
 use rules::StartNumbers;
 ghost use mathlib.Core.Path.{_≡_};
-ghost use Rattle.network.specs.declared.MaybePlmn.{MaybePlmn};
 ghost use Rattle.rules.specs.Call.{factsOf, placeOf, registeredOf, startNumbersFit};
 
 // Whether the numbers of a start are in their ranges, those that it does not have being 0.

@@ -1,11 +1,11 @@
 // The configuration text that is lent with a call.
+use choosing::is_home_abroad;
 use config::Config;
 use config::MOST_TEXT;
 use config::Parsed;
 use config::parse::ill_formed;
 use config::parse::parse;
 use phase::MaybeFacts;
-use selection::is_home_abroad;
 ghost use mathlib.Core.Path.{_≡_};
 ghost use Rattle.octets.specs.Refusal.{refusal};
 ghost use Rattle.config.specs.Settings.{parsed, Room};

@@ -2,7 +2,7 @@
 use Prim.Native.Nat.{ℕ, zero, suc}
 use mathlib.Core.Bool.{Bool}
 use mathlib.Core.List.{List, []}
-use mathlib.Core.Path.{_≡_, refl, sym, ap, ap₂, _∙_}
+use mathlib.Core.Path.{_≡_, refl, sym, ap, _∙_}
 use native.Mathlib.Omega.{arith}
 use lib.Dec.{ltb}
 use Rattle.octets.specs.Part.{padded, part, zeros}
@@ -19,9 +19,9 @@ use Rattle.rules.specs.Run.{run}
 use Rattle.rules.specs.declared.Action.{Action}
 use Rattle.rules.specs.declared.Action.the-variants as Action
 use Rattle.step.specs.Laws.{resultBy, storedBy}
-use Rattle.step.specs.Step.{Effect, effect, outcomeBy}
+use Rattle.step.specs.Step.{effect, outcomeBy}
 use Rattle.step.proofs.Steps.{less-none}
-use Rattle.attempt.specs.Attempt.{Selects, Says}
+use Rattle.attempt.specs.Attempt.{Says}
 use Rattle.attempt.specs.declared.Move.{Move}
 use Rattle.frame.specs.Entering.{Passes}
 use Rattle.frame.specs.declared.Entered.{Entered}

@@ -4,7 +4,7 @@ pub mod selecting;
 pub mod signalling;
 pub mod tunnels;
 
-use octets::slice::zero;
+use buffer::slice::zero;
 ghost use mathlib.Core.Path.{_≡_};
 ghost use lib.ListN.{length};
 ghost use Rattle.octets.specs.Part.{zeros};

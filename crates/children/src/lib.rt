@@ -1,9 +1,9 @@
 // The child associations of a line in octets.
-use octets::differ::all_differ;
-use octets::differ::pick;
-use octets::number::get;
-use octets::number::put;
-use octets::slice::zeros_at;
+use buffer::differ::all_differ;
+use buffer::differ::pick;
+use buffer::number::get;
+use buffer::number::put;
+use buffer::slice::zeros_at;
 ghost use mathlib.Core.Path.{_≡_};
 ghost use mathlib.Core.Bool.{_&&_};
 ghost use Prim.Native.Nat.{ℕ, _+_, _*_, _≤_, _<_};

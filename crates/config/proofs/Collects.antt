@@ -1,12 +1,12 @@
 -- Entries collected one after another: how many there are and whether one stands twice.
 use Prim.Native.Nat.{ℕ, suc, _+_, _≤_, _<_}
-use mathlib.Core.Bool.{Bool, true, false, _&&_, false≢true}
+use mathlib.Core.Bool.{Bool, true, false, _&&_, _||_, false≢true}
 use mathlib.Core.List.{List, [], _∷_, _++_, map, map-append, append-assoc, append-nil}
-use mathlib.Core.Path.{_≡_, sym, ap, ap₂, _∙_}
+use mathlib.Core.Path.{_≡_, refl, sym, ap, ap₂, _∙_}
 use native.Mathlib.Omega.{arith}
-use lib.Dec.{leb}
+use lib.Dec.{eqb, leb}
 use lib.ListN.{length, length-append, length-map}
-use borrow.Author.Tests.{le-leb, lt-leb}
+use borrow.Author.Tests.{eqb-true, le-leb, lt-leb}
 use Rattle.octets.specs.Search.{distinct}
 use Rattle.octets.proofs.Search.{and-false, and-true, eqb-turned}
 use Rattle.octets.proofs.Sublists.{distinct-last, distinct-repeats}
@@ -56,7 +56,7 @@ module _ (S d X : List Preferred) (split : S ≡ d ++ X) (new : distinct samePlm
 
   module _ (p : Preferred) (Y : List Preferred) (more : X ≡ p ∷ Y) where
     -- one more than the most is left
-    pub too-many : length d ≡ mostListed → false ≡ accepted (map plmnIn S)
+    too-many : length d ≡ mostListed → false ≡ accepted (map plmnIn S)
     unfolding accepted
     too-many h =
         let one : length X ≡ suc (length Y) = ap length more in
@@ -64,13 +64,22 @@ module _ (S d X : List Preferred) (split : S ≡ d ++ X) (new : distinct samePlm
         sym (rw (lt-leb (length (map plmnIn S)) mostListed many))
 
     -- the next one stands among those collected
-    pub repeated : among (plmnIn p) (map plmnIn d) ≡ true → false ≡ accepted (map plmnIn S)
+    repeated : among (plmnIn p) (map plmnIn d) ≡ true → false ≡ accepted (map plmnIn S)
     unfolding accepted among
     repeated h =
         let twice : distinct samePlmn (map plmnIn S) ≡ false =
         ap (λ (x : List Preferred). distinct samePlmn (map plmnIn x)) (split ∙ ap (λ (x : List Preferred). d ++ x) more)
         ∙ ap (distinct samePlmn) (map-append plmnIn d (p ∷ Y)) ∙ distinct-repeats samePlmn same-turned (map plmnIn d) (plmnIn p) (map plmnIn Y) h in
         sym (and-false (leb (length (map plmnIn S)) mostListed) (distinct samePlmn (map plmnIn S)) twice)
+
+    -- the next one is not taken in
+    pub no-more : (n : ℕ) → length d ≡ n → (r : Bool) → among (plmnIn p) (map plmnIn d) ≡ r → eqb n mostListed || r ≡ true → false ≡ accepted (map plmnIn S)
+    no-more n size r found h = go (eqb n mostListed) r refl found h
+      where
+        go : (t u : Bool) → eqb n mostListed ≡ t → among (plmnIn p) (map plmnIn d) ≡ u → t || u ≡ true → false ≡ accepted (map plmnIn S)
+        go true u e f k = too-many (size ∙ eqb-true n mostListed e)
+        go false true e f k = repeated f
+        go false false e f k = absurd (false≢true k)
 
     -- the next one is collected too
     pub one-more : S ≡ (d ++ p ∷ []) ++ Y

@@ -6,9 +6,7 @@ pub mod Runs
 pub mod Noding
 pub mod Texts
 pub mod Packed
-pub mod Places
-pub mod Plmns
 pub mod Preferences
-pub mod Priorities
 pub mod Stands
 pub mod Wholes
+pub mod Words

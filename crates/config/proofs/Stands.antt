@@ -28,6 +28,10 @@ use Rattle.config.specs.Lines.{entries, entriesFrom, lastEntry}
 abbrev pub line₃ : List ℕ → List ℕ → List ℕ → List ℕ → List ℕ
 line₃ w a b m = w ++ 9 ∷ (a ++ 9 ∷ (b ++ 10 ∷ m))
 
+-- four fields and a newline
+abbrev pub line₄ : List ℕ → List ℕ → List ℕ → List ℕ → List ℕ → List ℕ
+line₄ w a b c m = w ++ 9 ∷ (a ++ 9 ∷ (b ++ 9 ∷ (c ++ 10 ∷ m)))
+
 -- a node's address of 2 * widthOf version digits
 abbrev Address : ℕ → List ℕ → List ℕ → Type 0
 Address version k d = (f : List ℕ) × (x : ℕ) × (m : List ℕ) × (d ≡ line₃ (text "node") k f m) × (length f ≡ 2 * widthOf version) × (readDigits 16 f ≡ some x)
@@ -38,14 +42,14 @@ Stands d (Home p) = (a : List ℕ) × (b : List ℕ) × (m : List ℕ) × (d ≡
 Stands d (Name n) = (f : List ℕ) × (m : List ℕ) × (d ≡ line₃ (text "node") (text "name") f m) × (isName f ≡ true)
 Stands d (Node a) = Address 4 (text "v4") d ⊎ Address 6 (text "v6") d
 Stands d (Preference x) =
-    (a : List ℕ) × (b : List ℕ) × (c : List ℕ) × (m : List ℕ) × (d ≡ text "plmn" ++ 9 ∷ (a ++ 9 ∷ (b ++ 9 ∷ (c ++ 10 ∷ m)))) × (plmnOf a b ≡ some (x .plmn)) × (priorityOf c ≡ some (x .priority))
+    (a : List ℕ) × (b : List ℕ) × (c : List ℕ) × (m : List ℕ) × (d ≡ line₄ (text "plmn") a b c m) × (plmnOf a b ≡ some (x .plmn)) × (priorityOf c ≡ some (x .priority))
 Stands d (Bar p) = (a : List ℕ) × (b : List ℕ) × (m : List ℕ) × (d ≡ line₃ (text "bar") a b m) × (plmnOf a b ≡ some p)
 Stands d Bad = Unit {0}
 
 pub regroup₃ : (w a b m : List ℕ) → (w ++ 9 ∷ (a ++ 9 ∷ b)) ++ 10 ∷ m ≡ line₃ w a b m
 regroup₃ w a b m = simp append-assoc
 
-pub regroup₄ : (w a b c m : List ℕ) → (w ++ 9 ∷ (a ++ 9 ∷ (b ++ 9 ∷ c))) ++ 10 ∷ m ≡ w ++ 9 ∷ (a ++ 9 ∷ (b ++ 9 ∷ (c ++ 10 ∷ m)))
+pub regroup₄ : (w a b c m : List ℕ) → (w ++ 9 ∷ (a ++ 9 ∷ (b ++ 9 ∷ c))) ++ 10 ∷ m ≡ line₄ w a b c m
 regroup₄ w a b c m = simp append-assoc
 
 module _ (d line m : List ℕ) (q : d ≡ line ++ 10 ∷ m) where
@@ -110,7 +114,7 @@ module _ (l : List ℕ) (at next : ℕ) (within : next ≤ length l) (w a b : Li
         (let size = line-size l at line next d within in omega arith),
       )
 
-  pub four-line : (c : List ℕ) → Plain c → drop at l ≡ w ++ 9 ∷ (a ++ 9 ∷ (b ++ 9 ∷ (c ++ 10 ∷ drop next l))) → (entriesFrom l at ≡ four w a b c ∷ entriesFrom l next) × (at < next)
+  pub four-line : (c : List ℕ) → Plain c → drop at l ≡ line₄ w a b c (drop next l) → (entriesFrom l at ≡ four w a b c ∷ entriesFrom l next) × (at < next)
   four-line c pc e =
       let line = w ++ 9 ∷ (a ++ 9 ∷ (b ++ 9 ∷ c)) in
       let d = e ∙ sym (regroup₄ w a b c (drop next l)) in (

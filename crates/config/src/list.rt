@@ -8,9 +8,10 @@ use network::same_plmn;
 ghost use mathlib.Core.Bool.{false};
 ghost use mathlib.Core.Path.{_≡_};
 ghost use mathlib.Core.List.{map};
-ghost use Prim.Native.Nat.{_≤_};
+ghost use Prim.Native.Nat.{_≤_, _<_};
 ghost use lib.ListN.{length, take};
 ghost use Rattle.network.specs.Plmn.{among};
+ghost use Rattle.entry.specs.Entry.{Small};
 ghost use Rattle.config.specs.Branch.{ListedIs, SectionIs};
 ghost use Rattle.config.specs.Settings.{listedIn, mostListed, plmnIn};
 
@@ -21,10 +22,10 @@ pub enum Kind {
 }
 
 // How many numbers the place of an MNC has room for in the number of a listed entry.
-pub(crate) const MNC_ROOM: u64 = 65536;
+const MNC_ROOM: u64 = 65536;
 
 // How many numbers the place of a priority has room for in the number of a listed entry.
-pub(crate) const PRIORITY_ROOM: u64 = 256;
+const PRIORITY_ROOM: u64 = 256;
 
 // The listed entry that a number keeps.
 pub fn listed_in(x: u64) -> Preferred
@@ -39,9 +40,17 @@ pub fn listed_in(x: u64) -> Preferred
     }
 }
 
-// What a reader finds at a place.
+// The number that keeps a PLMN and a priority.
+pub(crate) fn kept(p: Plmn, priority: u64) -> u64
+    requires { ⌜ Small p × (priority < 256) ⌝ }
+    ensures { λ r. ⌜ listedIn r ≡ record { plmn = p; priority = priority } ⌝ }
+{
+    (p.mcc * MNC_ROOM + p.mnc) * PRIORITY_ROOM + priority
+}
+
+// What a reader of a listed entry finds at a place.
 pub(crate) enum Listed {
-    // A number, of which the reader's promise says what it keeps, and the place behind what was read.
+    // The number that keeps the entry, and the place behind its line.
     Is(u64, usize),
     // Something else.
     Not,
@@ -107,11 +116,8 @@ pub(crate) fn collect(text: &[u8], start: usize, kind: Kind, list: &mut [u64]) -
                 next: at,
             };
         };
-        if count == MOST_LISTED {
-            return refused();
-        }
         let p = listed_in(x);
-        if has_preferred(list, count, p.plmn) {
+        if (count == MOST_LISTED) | has_preferred(list, count, p.plmn) {
             return refused();
         }
         list[count] = x;

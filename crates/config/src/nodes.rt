@@ -1,19 +1,22 @@
 // `node` in the configuration text.
 use crate::Node;
-use crate::line::NEWLINE;
-use crate::line::TAB;
+use crate::line::BEHIND_WORD;
+use crate::line::WORD;
 use crate::line::four_at;
+use crate::line::word_at;
 use crate::parse::Noded;
 use address::Address;
 use entry::BEFORE_NAME;
+use entry::NEWLINE;
 use entry::field::MOST_NAME;
+use entry::name::name_end;
 use text::Reading;
 use text::read_digits;
 ghost use mathlib.Core.Path.{_≡_};
 ghost use Prim.Native.Nat.{_+_, _≤_};
 ghost use lib.ListN.{length};
-ghost use Rattle.entry.specs.Field.{isNameCharacter};
-ghost use Rattle.config.specs.Branch.{nameWord, version4, version6, NameEndIs, NodeBegins, NodedIs};
+ghost use Rattle.entry.specs.Entry.{beforeName};
+ghost use Rattle.config.specs.Branch.{beforeAddress, endsAfter, nameWord, versionWord, NodeBegins, NodedIs};
 ghost use Rattle.config.specs.declared.Node.the-variants as Node;
 
 // The word `node`, as one number.
@@ -22,8 +25,23 @@ const NODE: u64 = 1852793957;
 // The word `name`, as one number.
 const NAME: u64 = 1851878757;
 
+// A tab, `v4` and a tab, as one number.
+const VERSION_4: u64 = 158741513;
+
+// A tab, `v6` and a tab, as one number.
+const VERSION_6: u64 = 158742025;
+
 // The octets of a line before a node address: `node`, a tab, its version and a tab.
 const BEFORE_ADDRESS: usize = 8;
+
+// The digits of an address of version 4.
+const DIGITS_4: usize = 8;
+
+// The digits of an address of version 6.
+const DIGITS_6: usize = 32;
+
+// The digits of half an address of version 6.
+const HALF: usize = 16;
 
 // No `node` at a place: what stands there is left.
 fn nothing(at: usize) -> Noded
@@ -35,34 +53,20 @@ fn nothing(at: usize) -> Noded
     }
 }
 
-// Whether an octet may stand in a node name.
-fn is_name_character(c: u8) -> bool
-    ensures { λ r. ⌜ r ≡ isNameCharacter c ⌝ }
+// Whether a newline stands behind the n octets from a place.
+fn ends_after(text: &[u8], start: usize, n: usize) -> bool
+    requires { ⌜ (start ≤ length (now text)) × (n ≤ 32) ⌝ }
+    ensures { λ r. ⌜ r ≡ endsAfter (now (text .entry)) start n ⌝ }
 {
-    if ((97 <= c) & (c <= 122)) | ((65 <= c) & (c <= 90)) {
-        return true;
+    if text.len() <= start + n {
+        return false;
     }
-    ((48 <= c) & (c <= 57)) | (c == 45) | (c == 46)
-}
-
-// The first place from one on whose octet may not stand in a node name, or the end of the text.
-fn name_end(text: &[u8], at: usize) -> usize
-    requires { ⌜ at ≤ length (now text) ⌝ }
-    ensures { λ r. ⌜ NameEndIs (now (text .entry)) at r ⌝ }
-{
-    let mut i = at;
-    while i < text.len() {
-        if !is_name_character(text[i]) {
-            return i;
-        }
-        i += 1;
-    }
-    i
+    text[start + n] == NEWLINE
 }
 
 // The node name on the line at a place that begins with `node` and `name`.
 fn name_at(text: &[u8], at: usize) -> Noded
-    requires { ⌜ NodeBegins (now text) at nameWord (at + 10) ⌝ }
+    requires { ⌜ NodeBegins (now text) at nameWord (at + beforeName) ⌝ }
     ensures { λ r. ⌜ NodedIs (now (text .entry)) at r ⌝ }
 {
     let start = at + BEFORE_NAME;
@@ -85,44 +89,40 @@ fn name_at(text: &[u8], at: usize) -> Noded
 
 // The address of version 4 on the line at a place that begins with `node` and `v4`.
 fn version_4_at(text: &[u8], at: usize) -> Noded
-    requires { ⌜ NodeBegins (now text) at version4 (at + 8) ⌝ }
+    requires { ⌜ NodeBegins (now text) at (versionWord 4) (at + beforeAddress) ⌝ }
     ensures { λ r. ⌜ NodedIs (now (text .entry)) at r ⌝ }
 {
-    if text.len() < at + 17 {
+    let start = at + BEFORE_ADDRESS;
+    if !ends_after(text, start, DIGITS_4) {
         return nothing(at);
     }
-    if text[at + 16] != NEWLINE {
-        return nothing(at);
-    }
-    let Reading::Number(x) = read_digits(text, at + BEFORE_ADDRESS, 8, 16) else {
+    let Reading::Number(x) = read_digits(text, start, DIGITS_4, 16) else {
         return nothing(at);
     };
     Noded {
         node: Node::Address(Address::V4(x)),
-        next: at + 17,
+        next: start + DIGITS_4 + 1,
     }
 }
 
 // The address of version 6 on the line at a place that begins with `node` and `v6`.
 fn version_6_at(text: &[u8], at: usize) -> Noded
-    requires { ⌜ NodeBegins (now text) at version6 (at + 8) ⌝ }
+    requires { ⌜ NodeBegins (now text) at (versionWord 6) (at + beforeAddress) ⌝ }
     ensures { λ r. ⌜ NodedIs (now (text .entry)) at r ⌝ }
 {
-    if text.len() < at + 41 {
+    let start = at + BEFORE_ADDRESS;
+    if !ends_after(text, start, DIGITS_6) {
         return nothing(at);
     }
-    if text[at + 40] != NEWLINE {
-        return nothing(at);
-    }
-    let Reading::Number(high) = read_digits(text, at + BEFORE_ADDRESS, 16, 16) else {
+    let Reading::Number(high) = read_digits(text, start, HALF, 16) else {
         return nothing(at);
     };
-    let Reading::Number(low) = read_digits(text, at + 24, 16, 16) else {
+    let Reading::Number(low) = read_digits(text, start + HALF, HALF, 16) else {
         return nothing(at);
     };
     Noded {
         node: Node::Address(Address::V6(high, low)),
-        next: at + 41,
+        next: start + DIGITS_6 + 1,
     }
 }
 
@@ -131,22 +131,19 @@ pub(crate) fn node_at(text: &[u8], at: usize) -> Noded
     requires { ⌜ at ≤ length (now text) ⌝ }
     ensures { λ r. ⌜ NodedIs (now (text .entry)) at r ⌝ }
 {
-    if text.len() < at + 12 {
+    if text.len() < at + BEFORE_NAME {
         return nothing(at);
     }
-    if (four_at(text, at) != NODE) | (text[at + 4] != TAB) {
+    if !word_at(text, at, NODE) {
         return nothing(at);
     }
-    if (four_at(text, at + 5) == NAME) & (text[at + 9] == TAB) {
+    if word_at(text, at + BEHIND_WORD, NAME) {
         return name_at(text, at);
     }
-    if (text[at + 5] != 118) | (text[at + 7] != TAB) {
-        return nothing(at);
-    }
-    if text[at + 6] == 52 {
+    if four_at(text, at + WORD, VERSION_4) {
         return version_4_at(text, at);
     }
-    if text[at + 6] == 54 {
+    if four_at(text, at + WORD, VERSION_6) {
         return version_6_at(text, at);
     }
     nothing(at)

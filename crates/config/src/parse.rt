@@ -4,10 +4,9 @@ use crate::Node;
 use crate::Parsed;
 use crate::line::home_at;
 use crate::list::Kind;
-use crate::list::Listed;
-use crate::list::MNC_ROOM;
 use crate::list::collect;
 use crate::nodes::node_at;
+use entry::read::PlmnAt;
 use network::Plmn;
 ghost use mathlib.Core.Bool.{false};
 ghost use mathlib.Core.Path.{_≡_};
@@ -54,10 +53,7 @@ fn settled(text: &[u8], home: Plmn, at: usize, preferred: &mut [u64], barred: &m
         return ill_formed();
     }
     let bars = collect(text, plmns.next, Kind::Bar, barred);
-    if !bars.ok {
-        return ill_formed();
-    }
-    if bars.next != text.len() {
+    if !bars.ok | (bars.next != text.len()) {
         return ill_formed();
     }
     Parsed {
@@ -77,12 +73,8 @@ pub fn parse(text: &[u8], preferred: &mut [u64], barred: &mut [u64]) -> Parsed
     ensures { λ r. ⌜ parsed (now (preferred .exit)) (now (barred .exit)) r ≡ configOf (now (text .entry)) ⌝ }
     ensures { λ r. ⌜ Within (now (text .entry)) (now (preferred .exit)) (now (barred .exit)) (r .config) ⌝ }
 {
-    let Listed::Is(x, next) = home_at(text) else {
+    let PlmnAt::Is(home, next) = home_at(text) else {
         return ill_formed();
-    };
-    let home = Plmn {
-        mcc: x / MNC_ROOM,
-        mnc: x % MNC_ROOM,
     };
     settled(text, home, next, preferred, barred)
 }

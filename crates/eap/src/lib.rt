@@ -1,7 +1,7 @@
 // The reader of EAP-5G packets.
-use octets::number::get;
-use octets::slice::part;
-use octets::slice::word;
+use buffer::number::get;
+use buffer::slice::part;
+use buffer::slice::word;
 use parameters::MOST_PARAMETERS;
 use parameters::well_formed;
 ghost use mathlib.Core.Path.{_≡_};

@@ -1,5 +1,5 @@
 -- The characters of fields: digits, and what is neither a tab nor a newline.
-use Prim.Native.Nat.{ℕ, _+_, _*_, _-_, _^_, _≤_, _<_}
+use Prim.Native.Nat.{ℕ, _-_, _^_, _≤_, _<_}
 use mathlib.Core.Bool.{Bool, true, false, cond, not, _&&_, _||_, false≢true}
 use mathlib.Core.List.{List, [], _∷_, map}
 use mathlib.Core.Logic.{_⊎_, inl, inr, ⊎-elim}
@@ -47,27 +47,10 @@ decimal-digit c e =
     let t : leb 48 c && leb c 57 ≡ true = digit-test c ∙ e in
     record { low = leb-true 48 c (and-left (leb 48 c) (leb c 57) t); high = leb-true c 57 (and-right (leb 48 c) (leb c 57) t); is = digit-is c t }
 
--- numbers of one, two and three digits
-module _ (x : ℕ) (d : isDigit 10 x ≡ true) where
-  pub read-one : readDigits 10 (x ∷ []) ≡ some (x - 48)
-  unfolding readDigits allOf number numberFrom
-  read-one = let e = decimal-digit x d in rw d (ap some (omega (arith, e .is, e .low)))
-
-  module _ (y : ℕ) (f : isDigit 10 y ≡ true) where
-    pub read-two : readDigits 10 (x ∷ y ∷ []) ≡ some (x * 10 + y - 528)
-    unfolding readDigits allOf number numberFrom
-    read-two =
-        let e = decimal-digit x d in
-        let g = decimal-digit y f in
-        rw (d, f) (ap some (omega (arith, e .is, e .low, g .is, g .low)))
-
-    pub read-three : (z : ℕ) → isDigit 10 z ≡ true → readDigits 10 (x ∷ y ∷ z ∷ []) ≡ some (x * 100 + y * 10 + z - 5328)
-    unfolding readDigits allOf number numberFrom
-    read-three z k =
-        let e = decimal-digit x d in
-        let g = decimal-digit y f in
-        let h = decimal-digit z k in
-        rw (d, f, k) (ap some (omega (arith, e .is, e .low, g .is, g .low, h .is, h .low)))
+-- a number of one digit
+pub read-one : (x : ℕ) → isDigit 10 x ≡ true → readDigits 10 (x ∷ []) ≡ some (x - 48)
+unfolding readDigits allOf number numberFrom
+read-one x d = let e = decimal-digit x d in rw d (ap some (omega (arith, e .is, e .low)))
 
 -- a text that is read has digits only
 pub read-all : (b : ℕ) (l : List ℕ) (x : ℕ) → readDigits b l ≡ some x → allOf (isDigit b) l ≡ true

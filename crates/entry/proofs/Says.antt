@@ -45,15 +45,11 @@ module _ (w a b : List ℕ) where
   first : (m : List ℕ) → same w m ≡ true → fields ≡ m ∷ a ∷ b ∷ []
   first m e = ap (λ (l : List ℕ). l ∷ a ∷ b ∷ []) (same-equal w m e)
 
-  home-said : same w (text "home") ≡ true → (o : Option Plmn) → plmnOf a b ≡ o → Says fields (homeEntry o)
-  unfolding homeEntry
-  home-said e none h = tt
-  home-said e (some p) h = (a, b, first (text "home") e, h)
-
-  bar-said : same w (text "bar") ≡ true → (o : Option Plmn) → plmnOf a b ≡ o → Says fields (barEntry o)
-  unfolding barEntry
-  bar-said e none h = tt
-  bar-said e (some p) h = (a, b, first (text "bar") e, h)
+  -- `home` and `bar` say a PLMN where the fields behind the word do
+  network-said : (m : List ℕ) (entry : Option Plmn → Entry) → Says fields (entry none) → ((p : Plmn) → Network m fields p → Says fields (entry (some p)))
+      → same w m ≡ true → (o : Option Plmn) → plmnOf a b ≡ o → Says fields (entry o)
+  network-said m entry unsaid says e none h = unsaid
+  network-said m entry unsaid says e (some p) h = says p (a, b, first m e, h)
 
   module _ (node : same w (text "node") ≡ true) where
     both : (m : List ℕ) → same a m ≡ true → fields ≡ text "node" ∷ m ∷ b ∷ []
@@ -63,19 +59,13 @@ module _ (w a b : List ℕ) where
     name-said e true h = (b, both (text "name") e, h)
     name-said e false h = tt
 
-    v4-said : same a (text "v4") ≡ true → (t : Bool) → eqb (length b) (2 * widthOf 4) ≡ t → (o : Option ℕ) → readDigits 16 b ≡ o
-        → Says fields (cond t (addressEntry 4 o) Bad)
+    -- an address of a version
+    address-said : (version : ℕ) (m : List ℕ) → (Digits version m fields → Digits 4 (text "v4") fields ⊎ Digits 6 (text "v6") fields) → same a m ≡ true
+        → (t : Bool) → eqb (length b) (2 * widthOf version) ≡ t → (o : Option ℕ) → readDigits 16 b ≡ o → Says fields (cond t (addressEntry version o) Bad)
     unfolding addressEntry
-    v4-said e true h none k = tt
-    v4-said e true h (some x) k = inl (b, x, both (text "v4") e, eqb-true (length b) (2 * widthOf 4) h, k)
-    v4-said e false h o k = tt
-
-    v6-said : same a (text "v6") ≡ true → (t : Bool) → eqb (length b) (2 * widthOf 6) ≡ t → (o : Option ℕ) → readDigits 16 b ≡ o
-        → Says fields (cond t (addressEntry 6 o) Bad)
-    unfolding addressEntry
-    v6-said e true h none k = tt
-    v6-said e true h (some x) k = inr (b, x, both (text "v6") e, eqb-true (length b) (2 * widthOf 6) h, k)
-    v6-said e false h o k = tt
+    address-said version m says e true h none k = tt
+    address-said version m says e true h (some x) k = says (b, x, both m e, eqb-true (length b) (2 * widthOf version) h, k)
+    address-said version m says e false h o k = tt
 
     node-said : Says fields (nodeEntry a b)
     unfolding nodeEntry nameEntry versionEntry
@@ -84,18 +74,18 @@ module _ (w a b : List ℕ) where
         go : (t : Bool) → same a (text "name") ≡ t → (u : Bool) → same a (text "v4") ≡ u → (v : Bool) → same a (text "v6") ≡ v
             → Says fields (cond t (nameEntry b) (cond u (versionEntry 4 b) (cond v (versionEntry 6 b) Bad)))
         go true e u f v g = name-said e (isName b) refl
-        go false e true f v g = v4-said f (eqb (length b) (2 * widthOf 4)) refl (readDigits 16 b) refl
-        go false e false f true g = v6-said g (eqb (length b) (2 * widthOf 6)) refl (readDigits 16 b) refl
+        go false e true f v g = address-said 4 (text "v4") inl f (eqb (length b) (2 * widthOf 4)) refl (readDigits 16 b) refl
+        go false e false f true g = address-said 6 (text "v6") inr g (eqb (length b) (2 * widthOf 6)) refl (readDigits 16 b) refl
         go false e false f false g = tt
 
   three-said : Says fields (three w a b)
-  unfolding three
+  unfolding three homeEntry barEntry
   three-said = go (same w (text "home")) refl (same w (text "bar")) refl (same w (text "node")) refl
     where
       go : (t : Bool) → same w (text "home") ≡ t → (u : Bool) → same w (text "bar") ≡ u → (v : Bool) → same w (text "node") ≡ v
           → Says fields (cond t (homeEntry (plmnOf a b)) (cond u (barEntry (plmnOf a b)) (cond v (nodeEntry a b) Bad)))
-      go true e u f v g = home-said e (plmnOf a b) refl
-      go false e true f v g = bar-said f (plmnOf a b) refl
+      go true e u f v g = network-said (text "home") homeEntry tt (λ p s. s) e (plmnOf a b) refl
+      go false e true f v g = network-said (text "bar") barEntry tt (λ p s. s) f (plmnOf a b) refl
       go false e false f true g = node-said g
       go false e false f false g = tt
 

@@ -2,3 +2,4 @@
 pub mod Pieces
 pub mod Field
 pub mod Entry
+pub mod Read

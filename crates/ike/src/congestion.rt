@@ -4,7 +4,7 @@ use crate::is_underway;
 use address::Address;
 use address::End;
 use address::Hold;
-use octets::number::MOST_OCTET;
+use buffer::number::MOST_OCTET;
 use phase::MaybeAddress;
 use phase::Phase;
 use phase::chosen;

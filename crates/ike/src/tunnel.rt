@@ -1,10 +1,10 @@
 // The child associations of a live line.
+use buffer::number::MOST_OCTET;
 use children::CHILDREN;
 use children::Child;
 use children::child_fits;
 use children::has_spi;
 use children::without;
-use octets::number::MOST_OCTET;
 use phase::LIVE;
 use phase::Phase;
 use phase::number;

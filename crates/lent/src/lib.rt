@@ -1,6 +1,4 @@
 // Steps on a line's record that is lent: it is changed where it lies.
-use attempt::address_answer;
-use attempt::country_answer;
 use ike::begin;
 use ike::congestion::congestion;
 use ike::error;
@@ -15,6 +13,8 @@ use rules::Action;
 use rules::StartNumbers;
 use session::eap_packet;
 use step::Stepped;
+use whole::address_answer;
+use whole::country_answer;
 ghost use mathlib.Core.Bool.{true};
 ghost use mathlib.Core.List.{[]};
 ghost use mathlib.Core.Path.{_≡_};
@@ -99,7 +99,7 @@ pub fn on_start(
     ensures { λ r. ⌜ PartWithin (numbersOf (r .action)) (now (text .entry)) (now (name .exit)) [] ⌝ }
     ensures { λ r. ⌜ InArrays (now (line .exit)) ⌝ }
 {
-    let stepped = attempt::start(*line, time, given, text, name);
+    let stepped = whole::start(*line, time, given, text, name);
     *line = stepped.line;
     Told {
         refusal: stepped.refusal,

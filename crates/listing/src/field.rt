@@ -1,8 +1,8 @@
 // The fields of a listing: each is stored from a place on, and the place behind it comes back.
 use address::Address;
 use addresses::read_address;
-use octets::number::get;
-use octets::slice::copy;
+use buffer::number::get;
+use buffer::slice::copy;
 use phase::AUTH;
 use phase::CHOSEN;
 use phase::COUNTRY;

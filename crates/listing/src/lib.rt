@@ -1,6 +1,9 @@
 // The text of one tenant.
 mod field;
 
+use buffer::number::get;
+use buffer::slice::part;
+use buffer::slice::zero;
 use children::CHILD;
 use children::Child;
 use children::read_child;
@@ -9,9 +12,6 @@ use field::put_hex;
 use field::put_number;
 use field::put_text;
 use field::put_word;
-use octets::number::get;
-use octets::slice::part;
-use octets::slice::zero;
 use record::CHILD_COUNT_AT;
 use record::CHILDREN_AT;
 use record::LINES;

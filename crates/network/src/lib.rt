@@ -1,6 +1,6 @@
 // Networks, each known by its PLMN, and the names under which their N3IWFs are looked up.
-use octets::slice::copy;
-use octets::slice::zero;
+use buffer::slice::copy;
+use buffer::slice::zero;
 use text::put_digits;
 ghost use mathlib.Core.List.{_++_};
 ghost use mathlib.Core.Path.{_≡_};

@@ -1,12 +1,10 @@
 -- The laws of the definitions of specs/, for the proofs of this crate and of those above it.
-pub mod Apart
 pub mod Counts
 pub mod Digits
 pub mod Elements
 pub mod Fields
 pub mod Firsts
 pub mod Octets
-pub mod Ors
 pub mod Parts
 pub mod Patches
 pub mod Refusals
@@ -15,5 +13,3 @@ pub mod Search
 pub mod Splices
 pub mod Stands
 pub mod Sublists
-pub mod Words
-pub mod Zeros

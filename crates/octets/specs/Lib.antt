@@ -5,4 +5,3 @@ pub mod Search
 pub mod Row
 pub mod Refusal
 pub mod Laws
-pub mod Differ

@@ -1,8 +1,4 @@
-// Numbers as octets, and slices of octets.
-pub mod differ;
-pub mod number;
-pub mod slice;
-
+// Numbers as octets, and lists of octets: definitions and their laws.
 ghost use Rattle.octets.specs.Laws.{Laws};
 
 // Does nothing; its promise is the laws of this crate's definitions.

@@ -1,10 +1,10 @@
 // The calls without a table: reading and writing packets, AN-parameters one by one, the timer octet.
+use buffer::number::MOST_OCTET;
+use buffer::number::get;
 use eap::Packet;
 use eap::is_message;
 use eap::is_nas_request;
 use eap::is_success;
-use octets::number::MOST_OCTET;
-use octets::number::get;
 use parameters::MOST_PARAMETERS;
 use parameters::Parameter;
 use parameters::reader::read_from;

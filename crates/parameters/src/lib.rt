@@ -1,7 +1,7 @@
 // AN-parameters: each is a type octet, a length octet and that many octets.
 pub mod reader;
 
-use octets::number::get;
+use buffer::number::get;
 ghost use mathlib.Core.Path.{_≡_};
 ghost use Rattle.parameters.specs.Laws.{Laws};
 ghost use Rattle.parameters.specs.Parameters.{parameterAt, wellFormed};

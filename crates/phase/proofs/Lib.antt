@@ -1,4 +1,4 @@
--- The laws that the proofs of this crate share.
+-- The laws of a phase and its octets, for the proofs of the code over them.
 pub mod Waits
 pub mod Bools
 pub mod Places

@@ -1,7 +1,4 @@
 // What a line does, with the data of its phase, in octets.
-pub mod codec;
-mod place_facts;
-
 use address::Address;
 use place::Facts;
 ghost use mathlib.Core.Path.{_≡_};

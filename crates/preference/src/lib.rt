@@ -13,13 +13,12 @@ ghost use mathlib.Core.List.{map};
 ghost use mathlib.Core.Path.{_≡_};
 ghost use Prim.Native.Nat.{_≤_};
 ghost use lib.ListN.{length, take};
-ghost use Rattle.octets.specs.Row.{only};
 ghost use Rattle.network.specs.Plmn.{among, plmnOption};
-ghost use Rattle.config.specs.Settings.{listedIn, mostListed, Counted, settingsIn};
+ghost use Rattle.config.specs.Settings.{listedIn, Counted, settingsIn};
 ghost use Rattle.lists.specs.Lists.{networksIn};
 ghost use Rattle.preference.specs.Branch.{whereFound};
 ghost use Rattle.preference.specs.Laws.{Laws};
-ghost use Rattle.preference.specs.Preference.{barred, best, better, eligible, hasPlmns, networkOf, offered, preferred, provisioned, ranked, unranked, visited};
+ghost use Rattle.preference.specs.Preference.{barred, better, eligible, hasPlmns, offered, preferred, provisioned, ranked, unranked, visited};
 
 // Whether there is a record among the first n.
 fn has_plmns(list: &[u64], n: usize) -> bool

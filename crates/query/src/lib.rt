@@ -1,8 +1,8 @@
 // The name that is asked of DNS.
+use buffer::slice::part;
+use buffer::slice::zero;
 use network::operator_name;
 use network::visited_name;
-use octets::slice::part;
-use octets::slice::zero;
 use selection::Choice;
 ghost use mathlib.Core.List.{[]};
 ghost use mathlib.Core.Path.{_≡_};

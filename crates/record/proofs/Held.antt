@@ -11,7 +11,7 @@ use borrow.Author.Tests.{leb-true, ne-eqb}
 use Rattle.octets.specs.Digits.{field}
 use Rattle.octets.specs.Row.{row}
 use Rattle.octets.specs.Search.{anyOf, distinct}
-use Rattle.octets.proofs.Apart.{AllDiffer}
+use Rattle.buffer.proofs.Apart.{AllDiffer}
 use Rattle.octets.proofs.Rows.{map-row, row-distinct, row-fails}
 use Rattle.octets.proofs.Search.{all-each, and-true, lower, never-passes, or-other}
 use Rattle.address.specs.Address.{addressIn, sameAddress, stands}

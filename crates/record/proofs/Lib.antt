@@ -1,4 +1,4 @@
--- The laws that the proofs of this crate share.
+-- The laws of a record, for the proofs of the code over it.
 pub mod Adding
 pub mod Counts
 pub mod Held

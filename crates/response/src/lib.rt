@@ -1,9 +1,9 @@
 // The writer of NAS responses.
+use buffer::number::MOST_OCTET;
+use buffer::number::put;
+use buffer::slice::copy;
+use buffer::slice::zero;
 use eap::MOST_NAS;
-use octets::number::MOST_OCTET;
-use octets::number::put;
-use octets::slice::copy;
-use octets::slice::zero;
 use parameters::MOST_PARAMETERS;
 use parameters::well_formed;
 ghost use mathlib.Core.Path.{_≡_};

@@ -28,7 +28,7 @@ use Rattle.selection.specs.Stops.{Ends, Exactly, addresses, countryReached, sta
 use Rattle.table.specs.Slots.{isOpen, lineAt, slotsOf, openPairs}
 use Rattle.table.specs.Table.{isTable, recordOf, slot, tableLength, recordCount}
 use Rattle.rules.specs.After.{After, LiveBy, PhaseAfter, SureBy, ownRecord}
-use Rattle.rules.specs.Answer.{Answer, numberCount, numbersOf, roomOf}
+use Rattle.rules.specs.Answer.{Answer, numberCount, roomOf}
 use Rattle.rules.specs.Call.{Event, start, country, address, child-made, child-deleted, Call, opening, closing, listing, timed, factsOf, pairOf, lastTime, listingRoom}
 use Rattle.rules.specs.declared.StartNumbers.{StartNumbers}
 use Rattle.rules.specs.Histories.{answersTo, isOctets, remaining, tableAfter}

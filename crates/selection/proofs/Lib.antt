@@ -1,4 +1,4 @@
--- The laws that the proofs of this crate share.
+-- The laws of selection, for the claims and for the proofs of the code over it.
 pub mod Asked
 pub mod Choices
 pub mod Ends

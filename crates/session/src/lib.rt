@@ -1,6 +1,6 @@
 // The EAP-5G session of a line: what comes from the network, and the replies.
+use buffer::slice::zero;
 use eap::Packet;
-use octets::slice::zero;
 use parameters::well_formed;
 use phase::Phase;
 use phase::Turn;

@@ -1,8 +1,9 @@
 // Where a phase stands: what it says beside its place facts and its address, and how it goes on without them.
 use address::Address;
+use buffer::number::get;
+use buffer::number::put;
+use codec::read_turn;
 use network::MaybePlmn;
-use octets::number::get;
-use octets::number::put;
 use phase::AUTH;
 use phase::CHOSEN;
 use phase::COUNTRY;
@@ -14,7 +15,6 @@ use phase::NAME;
 use phase::Phase;
 use phase::SURE;
 use phase::Turn;
-use phase::codec::read_turn;
 use place::Facts;
 use place::Place;
 ghost use mathlib.Core.Path.{_≡_};

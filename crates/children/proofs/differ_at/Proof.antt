@@ -8,7 +8,7 @@ use lib.ListN.{getD}
 use borrow.Author.Needs.{needs}
 use borrow.Author.Tests.{ne-eqb}
 use Rattle.octets.specs.Digits.{field}
-use Rattle.octets.proofs.Apart.{each-differs, AllDiffer}
+use Rattle.buffer.proofs.Apart.{each-differs, AllDiffer}
 use Rattle.octets.proofs.Rows.{row-distinct}
 use Rattle.children.specs.Children.{childFrom, childIn, childrenFrom, isSpi, sameSpi, spisDiffer}
 use Rattle.children.proofs.differ_at.Statement.{statement}

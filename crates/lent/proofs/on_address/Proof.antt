@@ -9,10 +9,10 @@ use denote.Exit.{yes}
 use denote.Signature.{plain}
 use denote.Triple.Spec.{tripleOf}
 use denote.Triple.Table.{entered, cited}
-use Rattle.attempt.proofs.address_answer as address-answer
-use Rattle.attempt.proofs.address_answer.Symbol as address-answer-def
-use Rattle.attempt.proofs.address_answer.Symbol.{name as #address-answer}
-use Rattle.attempt.proofs.address_answer.Met as address-answer-thm
+use Rattle.whole.proofs.address_answer as address-answer
+use Rattle.whole.proofs.address_answer.Symbol as address-answer-def
+use Rattle.whole.proofs.address_answer.Symbol.{name as #address-answer}
+use Rattle.whole.proofs.address_answer.Met as address-answer-thm
 use Rattle.lent.proofs.Passing.{passed}
 use Rattle.lent.proofs.Signature.{lent-meets, number, octets, recordVals}
 use Rattle.lent.proofs.on_address.Key.{name as #on-address}
@@ -34,5 +34,5 @@ on-address-spec 𝓤 H 𝓜 𝓖 𝓡 =
     (λ κs a wt. passed W (𝓣 .C) (𝓣 .Λ) _ _ wt)
     (λ κs a γ r out. id⊢ 𝓤 _)
     (λ κs qs a γ vss.
-    cited 𝓤 H (tripleOf 𝓤 H A address-answer.signature (address-answer.spec 𝓤 H A (𝓜 .mem) (𝓡 .run))) 𝓜 𝓡 code.env #address-answer address-answer-def.routine code.calls-attempt·address-answer (address-answer-thm.met 𝓤 H 𝓜 𝓖 𝓡)
+    cited 𝓤 H (tripleOf 𝓤 H A address-answer.signature (address-answer.spec 𝓤 H A (𝓜 .mem) (𝓡 .run))) 𝓜 𝓡 code.env #address-answer address-answer-def.routine code.calls-whole·address-answer (address-answer-thm.met 𝓤 H 𝓜 𝓖 𝓡)
     ((κs .1, qs .1, tt, (a .0 .now, a .1), (recordVals (a .0 .now), vss)), tt)))

@@ -12,10 +12,10 @@ use denote.Signature.{plain}
 use denote.Slice.{sliceTy, sliceVal}
 use denote.Triple.Spec.{tripleOf}
 use denote.Triple.Table.{entered, cited}
-use Rattle.attempt.proofs.country_answer as country-answer
-use Rattle.attempt.proofs.country_answer.Symbol as country-answer-def
-use Rattle.attempt.proofs.country_answer.Symbol.{name as #country-answer}
-use Rattle.attempt.proofs.country_answer.Met as country-answer-thm
+use Rattle.whole.proofs.country_answer as country-answer
+use Rattle.whole.proofs.country_answer.Symbol as country-answer-def
+use Rattle.whole.proofs.country_answer.Symbol.{name as #country-answer}
+use Rattle.whole.proofs.country_answer.Met as country-answer-thm
 use Rattle.lent.proofs.Passing.{lendingOn, lent-on, lentOn, operandsOn}
 use Rattle.lent.proofs.Signature.{lent-meets, number, octets, recordVals, writable}
 use Rattle.lent.proofs.on_country.Key.{name as #on-country}
@@ -44,5 +44,5 @@ on-country-spec 𝓤 H 𝓜 𝓖 𝓡 =
     (wt .0, (wt .1 .0, (wt .1 .1 .0, (wt .1 .1 .1 .0, tt)))) (named 3) (a .1 .1 .1 .1 .1 .0 .ptr .0) (a .1 .1 .1 .1 .1 .0 .ptr .1) (length (a .1 .1 .1 .1 .1 .0 .now)) (wt .1 .1 .1 .1 .0 .1))
     (λ κs a γ r out. id⊢ 𝓤 _)
     (λ κs qs a γ vss.
-    cited 𝓤 H (tripleOf 𝓤 H A country-answer.signature (country-answer.spec 𝓤 H A (𝓜 .mem) (𝓡 .run))) 𝓜 𝓡 code.env #country-answer country-answer-def.routine code.calls-attempt·country-answer (country-answer-thm.met 𝓤 H 𝓜 𝓖 𝓡)
+    cited 𝓤 H (tripleOf 𝓤 H A country-answer.signature (country-answer.spec 𝓤 H A (𝓜 .mem) (𝓡 .run))) 𝓜 𝓡 code.env #country-answer country-answer-def.routine code.calls-whole·country-answer (country-answer-thm.met 𝓤 H 𝓜 𝓖 𝓡)
     ((κs .1, qs .1, tt, (a .0 .now, a .1), (recordVals (a .0 .now), vss)), tt)))

@@ -15,10 +15,10 @@ use denote.Triple.Spec.{tripleOf}
 use denote.Triple.Table.{entered, cited}
 use Rattle.rules.proofs.StartNumbers as G
 use Rattle.rules.proofs.StartNumbers.Laws as G′
-use Rattle.attempt.proofs.start as start
-use Rattle.attempt.proofs.start.Symbol as start-def
-use Rattle.attempt.proofs.start.Symbol.{name as #start}
-use Rattle.attempt.proofs.start.Met as start-thm
+use Rattle.whole.proofs.start as start
+use Rattle.whole.proofs.start.Symbol as start-def
+use Rattle.whole.proofs.start.Symbol.{name as #start}
+use Rattle.whole.proofs.start.Met as start-thm
 use Rattle.lent.proofs.Passing.{lendingOn, lent-on, lentOn, operandsOn}
 use Rattle.lent.proofs.Signature.{lent-meets, number, octets, recordVals, writable}
 use Rattle.lent.proofs.on_start.Key.{name as #on-start}
@@ -47,5 +47,5 @@ on-start-spec 𝓤 H 𝓜 𝓖 𝓡 =
     (wt .0, (wt .1 .0, (wt .1 .1 .0, tt))) (named 2) (a .1 .1 .1 .1 .0 .ptr .0) (a .1 .1 .1 .1 .0 .ptr .1) (length (a .1 .1 .1 .1 .0 .now)) (wt .1 .1 .1 .0 .1))
     (λ κs a γ r out. id⊢ 𝓤 _)
     (λ κs qs a γ vss.
-    cited 𝓤 H (tripleOf 𝓤 H A start.signature (start.spec 𝓤 H A (𝓜 .mem) (𝓡 .run))) 𝓜 𝓡 code.env #start start-def.routine code.calls-attempt·start (start-thm.met 𝓤 H 𝓜 𝓖 𝓡)
+    cited 𝓤 H (tripleOf 𝓤 H A start.signature (start.spec 𝓤 H A (𝓜 .mem) (𝓡 .run))) 𝓜 𝓡 code.env #start start-def.routine code.calls-whole·start (start-thm.met 𝓤 H 𝓜 𝓖 𝓡)
     ((κs .1, qs .1, tt, (a .0 .now, a .1), (recordVals (a .0 .now), vss)), tt)))

@@ -1,11 +1,10 @@
 -- `preference::better_of` meets its contract: the earlier record stays unless the later one is better.
-use Prim.Native.Nat.{ℕ, _≤_, _<_}
+use Prim.Native.Nat.{_≤_, _<_}
 use mathlib.Core.Bool.{true, false}
 use mathlib.Core.Path.{_≡_, sym, subst}
 use borrow.Author.Needs.{needs}
 use borrow.Author.Tests.{not-true, not-false}
 use Rattle.entry.specs.declared.field.Preferred.{Preferred}
-use Rattle.config.specs.Settings.{listedIn}
 use Rattle.preference.specs.Preference.{better}
 use Rattle.preference.specs.Branch.{whereFound}
 use Rattle.preference.proofs.Picks.{better-later, better-earlier}

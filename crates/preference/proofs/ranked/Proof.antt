@@ -1,7 +1,7 @@
 -- `preference::ranked` meets its contract. The loop's invariant: the best of the records behind is found.
 use Prim.Native.Nat.{_-_, _≤_}
 use mathlib.Core.List.{map}
-use mathlib.Core.Option.{Option, some}
+use mathlib.Core.Option.{some}
 use mathlib.Core.Path.{_≡_, sym, ap, _∙_}
 use native.Mathlib.Nat.{le-refl}
 use native.Mathlib.Omega.{arith}

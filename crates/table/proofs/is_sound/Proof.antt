@@ -1,8 +1,7 @@
 -- `table::is_sound` meets its contract. The loop's invariant: the place is that of a record, the records passed are free or sound, and their
 -- pairs stand once and are flagged.
 use Prim.Native.Nat.{ℕ, _+_, _*_, _-_, _≤_, _<_}
-use mathlib.Core.Bool.{true, false}
-use mathlib.Core.List.{List}
+use mathlib.Core.Bool.{true}
 use mathlib.Core.Path.{_≡_, refl, sym, _∙_}
 use native.Mathlib.Omega.{arith}
 use denote.Ref.{now}

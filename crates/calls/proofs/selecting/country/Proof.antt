@@ -1,6 +1,5 @@
 -- `calls::selecting::country` meets its contract.
 use Prim.Native.Nat.{ℕ}
-use mathlib.Core.Bool.{Bool}
 use mathlib.Core.Path.{refl}
 use denote.Ref.{now}
 use lib.Dec.{ltb}

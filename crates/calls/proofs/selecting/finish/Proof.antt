@@ -1,5 +1,5 @@
 -- `calls::selecting::finish` meets its contract: the choice was refused, or what it decides is stored and answered.
-use mathlib.Core.Path.{refl, sym, ap, _∙_}
+use mathlib.Core.Path.{ap, _∙_}
 use denote.Ref.{now}
 use borrow.Author.Needs.{needs}
 use Rattle.octets.specs.Part.{zeros}

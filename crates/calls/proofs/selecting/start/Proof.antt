@@ -1,6 +1,5 @@
 -- `calls::selecting::start` meets its contract.
 use Prim.Native.Nat.{ℕ}
-use mathlib.Core.Bool.{Bool}
 use mathlib.Core.Path.{refl, sym}
 use denote.Ref.{now}
 use lib.Dec.{ltb}

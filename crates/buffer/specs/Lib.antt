@@ -1,0 +1,2 @@
+-- What the code says of eight numbers that it compares.
+pub mod Differ
