@@ -15,13 +15,15 @@ differsOn w d i = not (eqb (getD w i 0) (getD w (i + d) 0))
 abbrev pub places : ℕ
 places = 8
 
--- no two of the places hold the same number: each another than those before it
+-- the number at i is another than the one at j
 unfoldable pub differsFrom : List ℕ → ℕ → ℕ → Bool
 differsFrom w j i = not (eqb (getD w i 0) (getD w j 0))
 
+-- no place before j holds its number
 unfoldable pub isNew : List ℕ → ℕ → Bool
 isNew w j = all j (differsFrom w j)
 
+-- no two of the places hold the same number
 unfoldable pub allDiffer : List ℕ → Bool
 allDiffer w = all places (isNew w)
 

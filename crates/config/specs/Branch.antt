@@ -28,7 +28,7 @@ ListedIs kind text at (Is x next) =
     × (rest (asListed kind) (entriesFrom text at) ≡ rest (asListed kind) (entriesFrom text next)) × (at < next) × (next ≤ length text)
 ListedIs kind text at Not = (section (asListed kind) (entriesFrom text at) ≡ []) × (rest (asListed kind) (entriesFrom text at) ≡ entriesFrom text at)
 
--- what the code's answer says of a text that begins with `home`; where none is found, the text is not well formed
+-- what the code's answer says of `home` at the start of a text; where it does not stand there, the text is not well formed
 abbrev pub HomeIs : List ℕ → PlmnAt → Type 0
 HomeIs text (PlmnAt.Is p next) = (entriesFrom text 0 ≡ Home p ∷ entriesFrom text next) × (next ≡ lineEnd text 0 + 1) × (next ≤ length text)
 HomeIs text PlmnAt.Not = none ≡ configOf text

@@ -25,7 +25,7 @@ digitOn text at k = isDigit 10 (getD text (at + k) 0)
 unfoldable pub digitsAt : List ℕ → ℕ → ℕ → Bool
 digitsAt text at n = all n (digitOn text at)
 
--- what the n digits at a place say
+-- the number that the n digits at a place say, where n digits stand there
 pub record NumberIs (text : List ℕ) (at n r : ℕ) : Type 0 where
   pub is : readDigits 10 (part text at n) ≡ some r
   pub below : r < 10 ^ n
@@ -34,7 +34,7 @@ pub record NumberIs (text : List ℕ) (at n r : ℕ) : Type 0 where
 unfoldable pub startsPlmn : List ℕ → ℕ → Bool
 startsPlmn text at = (digitsAt text at 3 && eqb (getD text (at + 3) 0) tabCode) && digitsAt text (at + 4) 2
 
--- what the code's answer says of two fields at a place, a tab between them and an octet behind them, and the PLMN that they say
+-- what the code's answer says of two fields at a place, a tab between them and an octet behind them that is no digit, and the PLMN that they say
 abbrev pub PlmnIs : List ℕ → ℕ → ℕ → PlmnAt → Type 0
 PlmnIs text at end (PlmnAt.Is p next) =
     (a : List ℕ) × (b : List ℕ) × (drop at text ≡ a ++ tabCode ∷ (b ++ end ∷ drop next text)) × (next ≤ length text) × (plmnOf a b ≡ some p)
@@ -55,7 +55,7 @@ PriorityIs text at PriorityAt.Not = (c m : List ℕ) (x : ℕ) → drop at text 
 abbrev pub zeroCode : ℕ
 zeroCode = 48
 
--- n digits stand at a place, more than one of them without a leading zero, and a priority there has more digits
+-- n digits and another octet stand at a place, more than one digit without a leading zero, and a priority there has more digits
 pub record LongPriority (text : List ℕ) (at n : ℕ) : Type 0 where
   pub digits : digitsAt text at n ≡ true
   pub room : at + n + 1 ≤ length text

@@ -15,7 +15,7 @@ fn is_name_character(c: u8) -> bool
     ((48 <= c) & (c <= 57)) | (c == 45) | (c == 46)
 }
 
-// The first place from one on whose octet may not stand in a node name, or the end of the text.
+// The first octet from a place on that may not stand in a node name: where it stands, or the end of the text.
 pub fn name_end(text: &[u8], at: usize) -> usize
     requires { ⌜ at ≤ length (now text) ⌝ }
     ensures { λ r. ⌜ NameEndIs (now (text .entry)) at r ⌝ }

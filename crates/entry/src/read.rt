@@ -39,7 +39,7 @@ fn starts_plmn(text: &[u8], at: usize) -> bool
     are_three(text, at) & (text[at + 3] == TAB) & are_two(text, at + 4)
 }
 
-// The PLMN at a place whose MNC has more than two digits.
+// A PLMN at a place whose MNC has more than two digits.
 fn long_plmn_at(text: &[u8], at: usize, end: u8) -> PlmnAt
     requires { ⌜ LongPlmn (now text) at end ⌝ }
     ensures { λ r. ⌜ PlmnIs (now (text .entry)) at end r ⌝ }
@@ -78,8 +78,8 @@ pub fn plmn_at(text: &[u8], at: usize, end: u8) -> PlmnAt
     PlmnAt::Is(p, at + 7)
 }
 
-// The priority at a place that has more than two digits.
-fn third_digit_at(text: &[u8], at: usize) -> PriorityAt
+// A priority of more than two digits at a place.
+fn longest_priority_at(text: &[u8], at: usize) -> PriorityAt
     requires { ⌜ LongPriority (now text) at 2 ⌝ }
     ensures { λ r. ⌜ PriorityIs (now (text .entry)) at r ⌝ }
 {
@@ -96,8 +96,8 @@ fn third_digit_at(text: &[u8], at: usize) -> PriorityAt
     PriorityAt::Is(x, at + 4)
 }
 
-// The priority at a place that has more than one digit.
-fn second_digit_at(text: &[u8], at: usize) -> PriorityAt
+// A priority of more than one digit at a place.
+fn long_priority_at(text: &[u8], at: usize) -> PriorityAt
     requires { ⌜ LongPriority (now text) at 1 ⌝ }
     ensures { λ r. ⌜ PriorityIs (now (text .entry)) at r ⌝ }
 {
@@ -108,7 +108,7 @@ fn second_digit_at(text: &[u8], at: usize) -> PriorityAt
         return PriorityAt::Not;
     }
     if text[at + 2] != NEWLINE {
-        return third_digit_at(text, at);
+        return longest_priority_at(text, at);
     }
     PriorityAt::Is(two(text, at), at + 3)
 }
@@ -125,7 +125,7 @@ pub fn priority_at(text: &[u8], at: usize) -> PriorityAt
         return PriorityAt::Not;
     }
     if text[at + 1] != NEWLINE {
-        return second_digit_at(text, at);
+        return long_priority_at(text, at);
     }
     PriorityAt::Is(one(text, at), at + 2)
 }

@@ -8,7 +8,6 @@ use lib.ListN.{length}
 use Rattle.octets.specs.Digits.{be}
 use Rattle.octets.specs.Part.{padded, zeros}
 use Rattle.text.specs.Text.{digitText, text}
-use Rattle.rules.specs.Run.{bare}
 use Rattle.rules.specs.Answer.{Answer, numbersOf, numberCount}
 use Rattle.rules.specs.declared.Action.{Action}
 use Rattle.rules.specs.declared.Action.the-variants as Action
@@ -164,8 +163,7 @@ congest time x timer =
 
 -- open and close: accepted, refused by a number
 unfoldable pub done : Answer
-unfolding bare
-done = bare
+done = record { refusal = 0; numbers = []; part = []; buffer = [] }
 
 unfoldable pub denied : ℕ → Answer
 denied n = record { refusal = n; numbers = []; part = []; buffer = [] }

@@ -9,6 +9,7 @@ use Rattle.examples.specs.FormExamples as FormExamples
 use Rattle.examples.specs.HoldExamples as HoldExamples
 use Rattle.examples.specs.LayoutExamples as LayoutExamples
 use Rattle.examples.specs.LifeExamples as LifeExamples
+use Rattle.examples.specs.PacketExamples as PacketExamples
 use Rattle.examples.specs.PhaseExamples as PhaseExamples
 use Rattle.examples.specs.RefusalExamples as RefusalExamples
 use Rattle.examples.specs.SelectionExamples as SelectionExamples
@@ -30,6 +31,8 @@ pub record Examples : Type 0 where
   pub ranges : map got RefusalExamples.ranges ≡ map said RefusalExamples.ranges
   -- well-formed and ill-formed texts and packets, and children
   pub forms : map got FormExamples.forms ≡ map said FormExamples.forms
+  -- the calls without a table
+  pub packets : map PacketExamples.packetGot PacketExamples.packets ≡ map PacketExamples.packetSaid PacketExamples.packets
   -- holds, and those that histories leave
   pub holdings : map got HoldExamples.holdings ≡ map said HoldExamples.holdings
   pub kept : map HoldExamples.keptGot HoldExamples.kept ≡ map HoldExamples.keptSaid HoldExamples.kept

@@ -6,6 +6,7 @@ pub mod PhaseExamples
 pub mod SelectionExamples
 pub mod RefusalExamples
 pub mod FormExamples
+pub mod PacketExamples
 pub mod HoldExamples
 pub mod SoundExamples
 pub mod TableExamples

@@ -159,6 +159,12 @@ lives =
       calls = own 99 ike-delete ∷ closing 0 0 ∷ opening 0 0 ∷ own 0 (start atHome node 64) ∷ [];
       says = declined 7 ∷ done ∷ done ∷ writes 64 (Action.Chose (V4 0xc0000207) 0) [] [] ∷ [];
     }
+    -- a listing in a longer buffer: zeros behind it
+    ∷ record {
+      before = toLive;
+      calls = listing 0 1030 ∷ [];
+      says = writes 1030 (Action.Listed 23) [] (shown "line|0|live|c0000207|0") ∷ [];
+    }
     ∷ []
 
 pub lives-computed : map got lives ≡ map said lives
@@ -169,7 +175,10 @@ lives-computed = refl
 unfoldable pub actions : List Action
 actions =
     Action.Nothing ∷ Action.Stopped 4 2 ∷ Action.AskCountry 52 ∷ Action.AskText 22 13 ∷ Action.AskBuilt 43 ∷ Action.Chose (V4 5) 2 ∷ Action.Chose (V6 8 9) 1 ∷ Action.SendInit ∷ Action.SendAuthRequest
-    ∷ Action.AskNas ∷ Action.HandUp 16 3 ∷ Action.SendResponse 19 ∷ Action.SendAuth ∷ Action.Live ∷ Action.Released 1 ∷ Action.ErrorUp 1 24 ∷ Action.Listed 42 ∷ []
+    ∷ Action.AskNas ∷ Action.HandUp 16 3 ∷ Action.SendResponse 19 ∷ Action.SendAuth ∷ Action.Live ∷ Action.Released 1 ∷ Action.ErrorUp 1 24 ∷ Action.Listed 42
+    -- and once more with other numbers
+    ∷ Action.Stopped 3 16 ∷ Action.AskCountry 51 ∷ Action.AskText 5 253 ∷ Action.AskBuilt 42 ∷ Action.Chose (V4 7) 15 ∷ Action.HandUp 18 2048 ∷ Action.SendResponse 3090 ∷ Action.Released 0
+    ∷ Action.ErrorUp 0 16383 ∷ Action.Listed 1024 ∷ []
 
 -- the twelve numbers of each
 unfoldable pub actionNumbers : List (List ℕ)
@@ -192,6 +201,16 @@ actionNumbers =
     ∷ twelve 12 0 0 0 0 0 0 0 0 1 0 0
     ∷ twelve 13 0 0 0 0 0 0 0 0 1 24 0
     ∷ twelve 0 0 0 0 0 0 0 0 0 0 0 42
+    ∷ twelve 1 3 16 0 0 0 0 0 0 0 0 0
+    ∷ twelve 2 0 0 2 0 51 0 0 0 0 0 51
+    ∷ twelve 3 0 0 1 5 253 0 0 0 0 0 0
+    ∷ twelve 3 0 0 2 0 42 0 0 0 0 0 42
+    ∷ twelve 4 0 15 0 0 0 4 0 7 0 0 0
+    ∷ twelve 8 0 0 3 18 2048 0 0 0 0 0 0
+    ∷ twelve 9 0 0 0 0 0 0 0 0 0 0 3090
+    ∷ twelve 12 0 0 0 0 0 0 0 0 0 0 0
+    ∷ twelve 13 0 0 0 0 0 0 0 0 0 16383 0
+    ∷ twelve 0 0 0 0 0 0 0 0 0 0 0 1024
     ∷ []
 
 pub actions-computed : map numbersOf actions ≡ actionNumbers

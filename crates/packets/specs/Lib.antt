@@ -1,3 +1,2 @@
 -- What the calls without a table answer.
 pub mod Packets
-pub mod Examples

@@ -1,4 +1,4 @@
--- What the private functions answer, in the terms of `Facts` and `Phase`.
+-- What the tests of a phase's octets answer, in the terms of `Facts` and `Phase`.
 use Prim.Native.Nat.{ℕ, _+_}
 use mathlib.Core.Bool.{Bool, _&&_}
 use mathlib.Core.List.{List}

@@ -1,4 +1,4 @@
--- What the private functions ask and answer, in the terms of `Sound`.
+-- What the tests of a record's octets ask and answer, in the terms of `Sound`.
 use Prim.Native.Nat.{ℕ, _≤_}
 use mathlib.Core.Bool.{Bool, true, _&&_, _||_}
 use mathlib.Core.List.{List}

@@ -6,12 +6,15 @@ use mathlib.Core.Option.{Option, none, some}
 use mathlib.Core.Path.{_≡_, refl, sym, ap, _∙_, subst}
 use native.Mathlib.Omega.{arith}
 use lib.Dec.{eqb, ltb}
+use lib.ListN.{drop}
 use borrow.Author.Tests.{eq-eqb, ltb-false}
 use Rattle.octets.specs.Refusal.{refusal}
+use Rattle.octets.specs.Row.{place}
 use Rattle.octets.proofs.Search.{or-left}
-use Rattle.address.specs.Address.{heldAddresses}
+use Rattle.address.specs.Address.{heldAddresses, permitted}
+use Rattle.address.specs.declared.Address.{Address}
 use Rattle.config.specs.Settings.{Settings, configOf}
-use Rattle.gateway.specs.Gateway.{choose}
+use Rattle.gateway.specs.Gateway.{choose, foundAt}
 use Rattle.gateway.specs.declared.Found.{Found}
 use Rattle.gateway.specs.declared.Found.the-variants as Found
 use Rattle.lists.specs.Lists.{addressesIn, networksIn}
@@ -28,7 +31,7 @@ use Rattle.table.specs.Table.{isTable}
 use Rattle.rules.specs.Answer.{numbersOf, twelve}
 use Rattle.rules.specs.Call.{Event, start, country, address, Call, timed, factsOf, lastTime, pairOf, tenantOf}
 use Rattle.rules.specs.declared.StartNumbers.{StartNumbers}
-use Rattle.rules.specs.Claims.{NoRow, Timed, isPastLast, lineIn, onLine, stopSaid}
+use Rattle.rules.specs.Claims.{NoRow, Timed, isPastLast, lineIn, onLine, passedSaid, stopSaid}
 use Rattle.rules.specs.Life.{Outcome, addressAnswered, countryAnswered, nameAsked, decided, gatewayFound, goes, outcome, started}
 use Rattle.rules.specs.Phases.{factsIn}
 use Rattle.rules.specs.Refusals.{isEarly, isOutOfRange, refusalsOf}
@@ -115,6 +118,23 @@ module _ (e : Event) (x : Line) where
   decided-stop f text (Choice.Text at n) = refl
   decided-stop f text (Choice.Network p) = refl
   decided-stop f text (Choice.Address a) = found-stop (choose (f .version) (heldAddresses (x .holds)) (a ∷ []))
+
+-- how many addresses an outcome's answer says were passed over
+found-passed : (e : Event) (x : Line) (k : ℕ) (rest : List Address) → passedSaid (answerOf e (gatewayFound x (foundAt k rest))) ≡ k
+unfolding passedSaid answerOf gatewayFound foundAt goes numbersOf twelve
+found-passed e x k [] = refl
+found-passed e x k (a ∷ rest) = refl
+
+module _ (tenant line time : ℕ) (l : List ℕ) (x : Line) (f : Facts) (facts : factsIn (x .phase) ≡ some f) where
+  pub passed-exactly : (list : List ℕ) → Timed tenant line time (address list) l x
+      → passedSaid (run (timed tenant line time (address list)) l .answer) ≡ place (permitted (f .version) (heldAddresses (current time x .holds))) (addressesIn list)
+  unfolding outcome addressAnswered current choose
+  passed-exactly list t =
+      let e = address list in
+      let y = current time x in
+      let k = place (permitted (f .version) (heldAddresses (y .holds))) (addressesIn list) in
+      ap passedSaid (timed-run tenant line time e l x t .0) ∙ ap (λ (o : Option Facts). passedSaid (answerOf e (addressAnswered y o (addressesIn list)))) facts
+      ∙ found-passed e y k (drop k (addressesIn list))
 
 -- a claim about what is said, from one about what the definitions stop at
 carried : {ends : ℕ → Type 0} {said stop : Option ℕ} → said ≡ stop → Exactly ends stop → Exactly ends said

@@ -9,9 +9,9 @@ use lib.ListN.{getD, length, set}
 use Rattle.octets.specs.Laws.{below}
 use Rattle.octets.specs.Part.{padded, zeros}
 use Rattle.octets.specs.Refusal.{Applies}
-use Rattle.octets.specs.Row.{only, row}
+use Rattle.octets.specs.Row.{only, place, row}
 use Rattle.octets.specs.Search.{allOf}
-use Rattle.address.specs.Address.{heldAddresses}
+use Rattle.address.specs.Address.{heldAddresses, permitted}
 use Rattle.children.specs.Children.{isOther}
 use Rattle.config.specs.Settings.{Settings, configOf}
 use Rattle.lists.specs.Lists.{addressesIn, networksIn}
@@ -132,6 +132,10 @@ pub record Left (c : Call) (l : List ℕ) (r : Result) : Type 0 where
 unfoldable pub stopSaid : Answer → Option ℕ
 stopSaid a = cond (eqb (getD (a .numbers) 0 0) 1) (some (getD (a .numbers) 1 0)) none
 
+-- how many addresses an answer says were passed over
+unfoldable pub passedSaid : Answer → ℕ
+passedSaid a = getD (a .numbers) 2 0
+
 -- an accepted timed call on a line of a sound table
 pub record Timed (tenant line time : ℕ) (e : Event) (l : List ℕ) (x : Line) : Type 0 where
   pub octets : isOctets (timed tenant line time e) ≡ true
@@ -173,6 +177,10 @@ pub record Claims : Type 0 where
   pub stops-address : (tenant line time : ℕ) (list : List ℕ) (l : List ℕ) (x : Line) (s : Settings) (f : Facts)
       → Timed tenant line time (address list) l x → factsIn (x .phase) ≡ some f
       → Exactly (Ends s (f .version) (heldAddresses (current time x .holds)) (addresses (addressesIn list))) (stopSaid (run (timed tenant line time (address list)) l .answer))
+  -- the address answer says how many addresses stand before the first that is permitted, or all of them where none is
+  pub passed-exactly : (tenant line time : ℕ) (list : List ℕ) (l : List ℕ) (x : Line) (f : Facts)
+      → Timed tenant line time (address list) l x → factsIn (x .phase) ≡ some f
+      → passedSaid (run (timed tenant line time (address list)) l .answer) ≡ place (permitted (f .version) (heldAddresses (current time x .holds))) (addressesIn list)
   -- children stand only on a live line
   pub tunnels-live : (tenant line : ℕ) (l : List ℕ) (x : Line) → Good l → lineIn l tenant line ≡ some x → isIn Stage.live (x .phase) ≡ false → x .children ≡ []
   -- an accepted child made adds that one at the end of a live line and changes nothing else of the line as the call finds it

@@ -33,13 +33,13 @@ module _ (l : List ℕ) where
 
   module _ (size : length l ≡ tableLength) (i : ℕ) where
     -- a record that is not sound, or whose pair a record before it has
-    pub bad-record : i < 32 → slotSound l i && pairOnce l i ≡ false → false ≡ isTable l
+    pub bad-record : i + 1 ≤ 32 → slotSound l i && pairOnce l i ≡ false → false ≡ isTable l
     unfolding isTable
     bad-record h e = sym (rw (eq-eqb (length l) tableLength size) (go (slotSound l i) refl e))
       where
         go : (b : Bool) → slotSound l i ≡ b → b && pairOnce l i ≡ false → all 32 (slotSound l) && all 32 (pairOnce l) ≡ false
-        go true q f = and-false (all 32 (slotSound l)) (all 32 (pairOnce l)) (all-fails 32 (pairOnce l) i h f)
-        go false q f = rw (all-fails 32 (slotSound l) i h q)
+        go true q f = and-false (all 32 (slotSound l)) (all 32 (pairOnce l)) (all-fails 32 (pairOnce l) i (omega arith) f)
+        go false q f = rw (all-fails 32 (slotSound l) i (omega arith) q)
 
     pub all-sound : i ≡ 32 → all i (slotSound l) ≡ true → all i (pairOnce l) ≡ true → true ≡ isTable l
     unfolding isTable

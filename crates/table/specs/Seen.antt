@@ -8,7 +8,7 @@ use Rattle.octets.specs.Search.{all}
 use Rattle.record.specs.Sound.{mostPairs}
 use Rattle.table.specs.Table.{lacksPair, pairOnce, slotSound}
 
--- which pairs the first i records have
+-- which pairs the first i records have; the flag of the number of a free record says nothing
 pub record Seen (l : List ℕ) (i : ℕ) (seen : List Bool) : Type 0 where
   pub sized : length seen ≡ mostPairs + 1
   pub flag : (p : ℕ) → 1 ≤ p → p ≤ mostPairs → getD seen p false ≡ not (all i (lacksPair l p))

@@ -4,6 +4,7 @@ use Rattle.examples.specs.FormExamples.{forms-computed}
 use Rattle.examples.specs.HoldExamples.{holds-computed, kept-computed}
 use Rattle.examples.specs.LayoutExamples.{layouts-computed}
 use Rattle.examples.specs.LifeExamples.{actions-computed, lives-computed}
+use Rattle.examples.specs.PacketExamples.{packets-computed}
 use Rattle.examples.specs.PhaseExamples.{phases-computed}
 use Rattle.examples.specs.RefusalExamples.{lowest-computed, ranges-computed}
 use Rattle.examples.specs.SelectionExamples.{selections-computed}
@@ -23,6 +24,7 @@ returns c = record {
   lowest = lowest-computed;
   ranges = ranges-computed;
   forms = forms-computed;
+  packets = packets-computed;
   holdings = holds-computed;
   kept = kept-computed;
   sounds = sounds-computed;

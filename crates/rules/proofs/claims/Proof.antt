@@ -10,7 +10,7 @@ use Rattle.rules.proofs.PhaseAfter.{phase-after}
 use Rattle.rules.proofs.Refused.{refusal-leaves, refusal-range, accepted-exactly, refused-exactly, unsound-refused}
 use Rattle.rules.proofs.Rooms.{answer-room}
 use Rattle.rules.proofs.Runs.{closed-zero, run-slots, run-sound, taken-over-clean, taken-over-listed}
-use Rattle.rules.proofs.Timed.{stops-address, stops-country, stops-start, timed-run, times-rise}
+use Rattle.rules.proofs.Timed.{passed-exactly, stops-address, stops-country, stops-start, timed-run, times-rise}
 use Rattle.rules.proofs.Tunnels.{tunnels-deleted, tunnels-live, tunnels-made}
 use Rattle.rules.proofs.Untouched.{length-kept, listing-leaves, others-untouched}
 use Rattle.rules.proofs.Views.{room-exactly}
@@ -32,6 +32,7 @@ returns c = record {
   stops-start = λ tenant line time g text room l x s t q. stops-start tenant line time l x s g text room t q;
   stops-country = λ tenant line time replied networks text room l x s f t q e. stops-country tenant line time l x s f e replied networks text room t q;
   stops-address = λ tenant line time list l x s f t e. stops-address tenant line time l x s f e list t;
+  passed-exactly = λ tenant line time list l x f t e. passed-exactly tenant line time l x f e list t;
   tunnels-live = tunnels-live;
   tunnels-made = λ tenant line time spi session l x t. tunnels-made tenant line time spi l x session t;
   tunnels-deleted = tunnels-deleted;

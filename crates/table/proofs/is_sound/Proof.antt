@@ -11,7 +11,7 @@ use Rattle.octets.specs.Search.{all}
 use Rattle.octets.proofs.Search.{all-more, and-left, and-right}
 use Rattle.record.specs.Octets.{recordLength}
 use Rattle.table.specs.Seen.{Seen}
-use Rattle.table.specs.Table.{pairOnce, slotSound}
+use Rattle.table.specs.Table.{pairOnce, slotSound, tableLength}
 use Rattle.table.proofs.Seen.{none-seen}
 use Rattle.table.proofs.Slots.{wrong-length, bad-record, all-sound}
 use Rattle.table.proofs.is_sound.Statement.{statement}
@@ -22,23 +22,20 @@ Inv-loop table seen₀ at₀ seen at =
     (i : ℕ) × (at ≡ recordLength * i) × (i ≤ 32) × (all i (slotSound table) ≡ true) × (all i (pairOnce table) ≡ true) × Seen table i seen
 
 abbrev μ-loop : tie.MeasureT-loop
-μ-loop table seen₀ at₀ seen at = 7776 - at
+μ-loop table seen₀ at₀ seen at = tableLength - at
 
 -- the place of a record that is within the table, and of the one behind it
 module _ {at : ℕ} (i : ℕ) (place : at ≡ recordLength * i) where
-  more : at < 7776 → i + 1 ≤ 32
+  more : at < tableLength → i + 1 ≤ 32
   more h = omega arith
 
-  below : at < 7776 → i < 32
-  below h = omega arith
-
-  within : at < 7776 → {n : ℕ} → n ≡ 7776 → at + recordLength ≤ n
+  within : at < tableLength → {n : ℕ} → n ≡ tableLength → at + recordLength ≤ n
   within h e = omega arith
 
   next-place : at + recordLength ≡ recordLength * (i + 1)
   next-place = omega arith
 
-  last : i ≤ 32 → 7776 ≤ at → i ≡ 32
+  last : i ≤ 32 → tableLength ≤ at → i ≡ 32
   last h k = omega arith
 
 returns : tie.Need-returns Inv-loop μ-loop
@@ -55,7 +52,7 @@ returns-2 : tie.Need-returns-2 Inv-loop μ-loop
 returns-2 c =
     let at-loop = c .before .before .before .before .loop in
     let passes = c .before .is-next .ensures (at-loop .inv .0) (at-loop .inv .1) (at-loop .inv .5) in
-    bad-record _ (c .before .before .before .before .before .if1 .left) (at-loop .inv .0) (below (at-loop .inv .0) (at-loop .inv .1) (c .before .before .before .loop-test .taken)) (sym (passes .tells) ∙ not-true _ (c .if2 .taken))
+    bad-record _ (c .before .before .before .before .before .if1 .left) (at-loop .inv .0) (more (at-loop .inv .0) (at-loop .inv .1) (c .before .before .before .loop-test .taken)) (sym (passes .tells) ∙ not-true _ (c .if2 .taken))
 
 add-at : tie.Need-add-at Inv-loop μ-loop
 add-at c = search needs

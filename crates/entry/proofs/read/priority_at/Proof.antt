@@ -20,8 +20,8 @@ returns-2 c =
     let l = now (a .args .text) in
     no-digit l (a .args .at) (a .pre) (sym (c .before .is-digit .ensures) ∙ not-true _ (c .if2 .taken))
 
-second-digit-at-requires : tie.Need-second-digit-at-requires
-second-digit-at-requires c κs =
+long-priority-at-requires : tie.Need-long-priority-at-requires
+long-priority-at-requires c κs =
     let a = c .before .before .before .before .before .before .before in
     let l = now (a .args .text) in
     one-digit l (a .args .at) (a .pre) (c .before .before .before .before .before .if1 .left) (sym (c .before .before .before .is-digit .ensures) ∙ not-false _ (c .before .before .if2 .left)) (c .if3 .taken)
@@ -50,7 +50,7 @@ priority-at-spec =
     returns-2
     (λ c. search needs)
     (λ c. search needs)
-    second-digit-at-requires
+    long-priority-at-requires
     (λ c. search needs)
     one-requires
     (λ c. search needs)

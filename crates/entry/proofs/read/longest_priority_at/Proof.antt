@@ -1,4 +1,4 @@
--- `entry::read::third_digit_at` meets its contract: a third digit and the newline behind it decide.
+-- `entry::read::longest_priority_at` meets its contract: a third digit and the newline behind it decide.
 use borrow.Author.Needs.{needs}
 use Prim.Native.Nat.{_+_}
 use mathlib.Core.Bool.{Bool, not, _||_}
@@ -7,8 +7,8 @@ use lib.Dec.{eqb}
 use lib.ListN.{getD}
 use denote.Ref.{now}
 use Rattle.entry.proofs.Priorities.{no-third, no-third-room, three-digits, three-said, too-great}
-use Rattle.entry.proofs.read.third_digit_at.Statement.{statement}
-use Rattle.entry.proofs.read.third_digit_at.Tie as tie
+use Rattle.entry.proofs.read.longest_priority_at.Statement.{statement}
+use Rattle.entry.proofs.read.longest_priority_at.Tie as tie
 
 returns : tie.Need-returns
 returns c =
@@ -41,8 +41,8 @@ returns-4 c =
     let l = now (a .args .text) in
     three-said l (a .args .at) (a .pre) (c .before .before .before .before .before .before .if1 .left) (ap (λ (t : Bool). not t || not (eqb (getD l (a .args .at + 3) 0) 10)) (sym (c .before .before .before .before .is-digit .ensures)) ∙ c .before .before .if2 .left) _ (c .before .three .ensures) (c .if3 .left)
 
-pub third-digit-at-spec : {M : Type 1} → statement M
-third-digit-at-spec =
+pub longest-priority-at-spec : {M : Type 1} → statement M
+longest-priority-at-spec =
     tie.close
     (tie.spec
     (λ c. search needs)
