@@ -1,5 +1,4 @@
--- What the exported calls return.
-pub mod Finishing
+-- The laws that the proofs of this crate share.
 pub mod Lists
 pub mod Opens
 pub mod Timed

@@ -18,7 +18,7 @@ use Rattle.rules.proofs.Runs.{accepted}
 use Rattle.listing.specs.Listed.{listingOf}
 use Rattle.frame.specs.Entering.{firstRefusals}
 use Rattle.frame.proofs.Entries.{in-range, is-long, is-sound, refused-at-first, refused-by}
-use Rattle.calls.specs.Returned.{returned}
+use Rattle.frame.specs.Returned.{returned}
 
 -- a listing has no line, so that its pair is that of the line 0
 no-line : (tenant room : ℕ) → isNoPair (listing tenant room) ≡ isAboveLast tenant 0

@@ -22,7 +22,7 @@ use Rattle.rules.specs.View.{View, fresh, lineSeen, ownLine, viewIn, viewOf}
 use Rattle.rules.proofs.Runs.{accepted}
 use Rattle.frame.specs.Entering.{firstRefusals}
 use Rattle.frame.proofs.Entries.{in-range, is-sound, line-seen, refused-at-first, refused-by}
-use Rattle.calls.specs.Returned.{returned}
+use Rattle.frame.specs.Returned.{returned}
 
 -- a refused call without numbers and buffers
 module _ (c : Call) (bare-is : (n : ℕ) → refused n c ≡ record { refusal = n; numbers = []; part = []; buffer = [] }) (l : List ℕ) where

@@ -1,7 +1,7 @@
 // Opening, closing and listing lines.
-use crate::refuse;
 use frame::answer::numbers;
 use frame::checked;
+use frame::refuse;
 use listing::LISTING_ROOM;
 use rules::Action;
 use rules::pair_of;
@@ -16,7 +16,7 @@ ghost use lib.ListN.{length};
 ghost use Rattle.rules.specs.Call as Call;
 ghost use Rattle.rules.specs.Call.{closing, opening};
 ghost use Rattle.rules.specs.Run.{run};
-ghost use Rattle.calls.specs.Returned.{returned};
+ghost use Rattle.frame.specs.Returned.{returned};
 
 // Opens a line in the free record of the lowest number.
 pub fn open(table: &mut [u8], tenant: u64, line: u64) -> u64

@@ -1,7 +1,7 @@
 // From the chosen address to a live line: IKE and EAP-5G.
-use crate::refuse;
 use frame::enter;
 use frame::first_end;
+use frame::refuse;
 use frame::settle_hold;
 use frame::settle_standing;
 use frame::went_of;
@@ -18,7 +18,7 @@ ghost use Rattle.rules.specs.Call.{congestion, eap, timed};
 ghost use Rattle.rules.specs.Call as Call;
 ghost use Rattle.rules.specs.Run.{run};
 ghost use Rattle.ike.specs.Events.{eventOf};
-ghost use Rattle.calls.specs.Returned.{returned};
+ghost use Rattle.frame.specs.Returned.{returned};
 
 // A call whose event comes with numbers alone and changes only the phase of the line.
 pub fn on_line(

@@ -16,7 +16,7 @@ ghost use mathlib.Core.Path.{_≡_};
 ghost use Rattle.rules.specs.Call.{child-made, timed};
 ghost use Rattle.rules.specs.Run.{run};
 ghost use Rattle.ike.specs.Events.{tunnelEventOf};
-ghost use Rattle.calls.specs.Returned.{returned};
+ghost use Rattle.frame.specs.Returned.{returned};
 
 // A call whose event takes children of a live line away.
 pub fn on_tunnel(

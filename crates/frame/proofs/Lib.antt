@@ -2,3 +2,4 @@
 pub mod Entries
 pub mod Halves
 pub mod Stores
+pub mod Timed

@@ -1,2 +1,3 @@
 -- What the calls on the table share.
 pub mod Entering
+pub mod Returned

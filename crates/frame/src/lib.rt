@@ -5,6 +5,7 @@ use crate::answer::numbers;
 use address::End;
 use address::HOLDS;
 use address::Hold;
+use buffer::slice::zero;
 use children::CHILDREN;
 use children::Child;
 use phase::Phase;
@@ -29,6 +30,7 @@ ghost use mathlib.Core.List.{[], _∷_, _++_};
 ghost use mathlib.Core.Option.{some};
 ghost use Prim.Native.Nat.{_≤_, _<_};
 ghost use lib.ListN.{getD, length, take};
+ghost use Rattle.octets.specs.Part.{zeros};
 ghost use Rattle.octets.specs.Refusal.{refusal};
 ghost use Rattle.address.specs.Address.{mostHolds};
 ghost use Rattle.address.specs.declared.Address.{Address};
@@ -39,7 +41,7 @@ ghost use Rattle.children.specs.Children.{mostChildren};
 ghost use Rattle.record.specs.Changes.{current, heldFor, inPhase, withChildren};
 ghost use Rattle.record.specs.Octets.{lineFrom};
 ghost use Rattle.table.specs.Table.{slot};
-ghost use Rattle.rules.specs.Answer.{numbersOf};
+ghost use Rattle.rules.specs.Answer.{numberCount, numbersOf};
 ghost use Rattle.step.specs.Laws.{storedBy};
 ghost use Rattle.frame.specs.Entering.{firstRefusals, Enters, GoneTo, Stands};
 
@@ -267,4 +269,15 @@ pub fn settle_hold(
     }
     keep_hold_at(table, entered.at, time, end, count);
     0
+}
+
+// A refused call with an answer buffer: only its number is returned.
+pub fn refuse(number: u64, buffer: &mut [u8], answer: &mut [u64; 12]) -> u64
+    ensures { λ r. ⌜ r ≡ number ⌝ }
+    ensures { λ _. ⌜ now (buffer .exit) ≡ zeros (length (now (buffer .entry))) ⌝ }
+    ensures { λ _. ⌜ now (answer .exit) ≡ zeros numberCount ⌝ }
+{
+    zero(buffer);
+    *answer = [0; 12];
+    number
 }

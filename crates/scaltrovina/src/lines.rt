@@ -7,7 +7,7 @@ ghost use Rattle.table.specs.Table.{tableLength};
 ghost use Rattle.rules.specs.Call as Call;
 ghost use Rattle.rules.specs.Call.{closing, opening};
 ghost use Rattle.rules.specs.Run.{run};
-ghost use Rattle.calls.specs.Returned.{returned};
+ghost use Rattle.frame.specs.Returned.{returned};
 
 // The length of a sound table; zeros of this length are the empty one.
 #[no_mangle]

@@ -5,7 +5,7 @@ ghost use lib.ListN.{length};
 ghost use Rattle.rules.specs.Answer.{partNamed, PartWithin};
 ghost use Rattle.rules.specs.Call.{address, country, start, startNumbers, timed};
 ghost use Rattle.rules.specs.Run.{run};
-ghost use Rattle.calls.specs.Returned.{returned};
+ghost use Rattle.frame.specs.Returned.{returned};
 
 // Starts an attempt: selection goes on until it asks a name, chooses an address or stops.
 #[no_mangle]
@@ -27,7 +27,7 @@ pub extern "C" fn scal_start(
     ensures { λ r. ⌜ returned r (now (answer .exit)) (partNamed (now (answer .exit)) (now (text .entry)) (now (name .exit)) []) (now (name .exit)) (now (table .exit)) ≡ run (timed tenant line time (start (startNumbers place mcc registered «registered_mcc» «registered_mnc» version) (now (text .entry)) (length (now (name .entry))))) (now (table .entry)) ⌝ }
     ensures { λ _. ⌜ PartWithin (now (answer .exit)) (now (text .entry)) (now (name .exit)) [] ⌝ }
 {
-    calls::selecting::start(
+    setup::start(
         table,
         tenant,
         line,
@@ -60,7 +60,7 @@ pub extern "C" fn scal_country(
     ensures { λ r. ⌜ returned r (now (answer .exit)) (partNamed (now (answer .exit)) (now (text .entry)) (now (name .exit)) []) (now (name .exit)) (now (table .exit)) ≡ run (timed tenant line time (country replied (now (networks .entry)) (now (text .entry)) (length (now (name .entry))))) (now (table .entry)) ⌝ }
     ensures { λ _. ⌜ PartWithin (now (answer .exit)) (now (text .entry)) (now (name .exit)) [] ⌝ }
 {
-    calls::selecting::country(
+    setup::country(
         table,
         tenant,
         line,
@@ -85,5 +85,5 @@ pub extern "C" fn scal_address(
 ) -> u64
     ensures { λ r. ⌜ returned r (now (answer .exit)) [] [] (now (table .exit)) ≡ run (timed tenant line time (address (now (addresses .entry)))) (now (table .entry)) ⌝ }
 {
-    calls::selecting::address(table, tenant, line, time, addresses, answer)
+    setup::address(table, tenant, line, time, addresses, answer)
 }

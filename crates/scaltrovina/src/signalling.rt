@@ -8,7 +8,7 @@ ghost use Rattle.rules.specs.Answer.{partNamed, PartWithin};
 ghost use Rattle.rules.specs.Call as Call;
 ghost use Rattle.rules.specs.Call.{begin, congestion, eap, error, final, give-up, init, timed};
 ghost use Rattle.rules.specs.Run.{run};
-ghost use Rattle.calls.specs.Returned.{returned};
+ghost use Rattle.frame.specs.Returned.{returned};
 
 // Begins IKE with the chosen address.
 #[no_mangle]

@@ -5,7 +5,7 @@ ghost use mathlib.Core.List.{[]};
 ghost use mathlib.Core.Path.{_≡_};
 ghost use Rattle.rules.specs.Call.{child-deleted, child-made, ike-delete, timed};
 ghost use Rattle.rules.specs.Run.{run};
-ghost use Rattle.calls.specs.Returned.{returned};
+ghost use Rattle.frame.specs.Returned.{returned};
 
 // Adds a child association.
 #[no_mangle]

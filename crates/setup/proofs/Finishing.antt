@@ -25,7 +25,7 @@ use Rattle.attempt.specs.Attempt.{Says}
 use Rattle.attempt.specs.declared.Move.{Move}
 use Rattle.frame.specs.Entering.{Passes}
 use Rattle.frame.specs.declared.Entered.{Entered}
-use Rattle.calls.specs.Returned.{returned}
+use Rattle.frame.specs.Returned.{returned}
 
 module _ (tenant line time : ℕ) (e : Event) (short : Bool) (l : List ℕ) (r : Entered) (room-is : isShort (timed tenant line time e) ≡ short) (passes : Passes r tenant line time short l) where
   abbrev own : Line

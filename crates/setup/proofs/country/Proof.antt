@@ -1,4 +1,4 @@
--- `calls::selecting::country` meets its contract.
+-- `setup::country` meets its contract.
 use Prim.Native.Nat.{ℕ}
 use mathlib.Core.Path.{refl}
 use denote.Ref.{now}
@@ -14,9 +14,9 @@ use Rattle.table.specs.Table.{slot}
 use Rattle.rules.specs.Answer.{eventRoom, roomOf}
 use Rattle.rules.specs.Call.{lastTime, country}
 use Rattle.rules.specs.Refusals.{isShort, leastEventRoom, leastRoom}
-use Rattle.calls.proofs.Timed.{turned-away-named}
-use Rattle.calls.proofs.selecting.country.Statement.{statement}
-use Rattle.calls.proofs.selecting.country.Tie as tie
+use Rattle.frame.proofs.Timed.{turned-away-named}
+use Rattle.setup.proofs.country.Statement.{statement}
+use Rattle.setup.proofs.country.Tie as tie
 
 -- behind the choice
 module _ (c : tie.After-country-choice) where

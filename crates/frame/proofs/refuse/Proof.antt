@@ -1,9 +1,9 @@
--- `calls::refuse` meets its contract.
+-- `frame::refuse` meets its contract.
 use mathlib.Core.Path.{refl}
 use borrow.Author.Needs.{needs}
 use Rattle.octets.specs.Part.{zeros}
-use Rattle.calls.proofs.refuse.Statement.{statement}
-use Rattle.calls.proofs.refuse.Tie as tie
+use Rattle.frame.proofs.refuse.Statement.{statement}
+use Rattle.frame.proofs.refuse.Tie as tie
 
 zero-requires : tie.Need-zero-requires
 zero-requires c κs = search needs

@@ -1,4 +1,4 @@
--- `calls::selecting::address` meets its contract.
+-- `setup::address` meets its contract.
 use mathlib.Core.Path.{refl}
 use borrow.Author.Needs.{needs}
 use Rattle.octets.specs.Part.{zeros}
@@ -6,9 +6,10 @@ use Rattle.record.specs.Changes.{inForce, withHolds}
 use Rattle.rules.specs.Answer.{eventRoom, roomOf}
 use Rattle.rules.specs.Call.{address}
 use Rattle.rules.specs.Refusals.{isShort, leastEventRoom, leastRoom}
-use Rattle.calls.proofs.Timed.{addressed, turned-away}
-use Rattle.calls.proofs.selecting.address.Statement.{statement}
-use Rattle.calls.proofs.selecting.address.Tie as tie
+use Rattle.frame.proofs.Timed.{turned-away}
+use Rattle.setup.proofs.Addressed.{addressed}
+use Rattle.setup.proofs.address.Statement.{statement}
+use Rattle.setup.proofs.address.Tie as tie
 
 enter-requires : tie.Need-enter-requires
 enter-requires c κs = search needs

@@ -1,4 +1,4 @@
--- `calls::selecting::finish` meets its contract: the choice was refused, or what it decides is stored and answered.
+-- `setup::finish` meets its contract: the choice was refused, or what it decides is stored and answered.
 use mathlib.Core.Path.{ap, _∙_}
 use denote.Ref.{now}
 use borrow.Author.Needs.{needs}
@@ -6,9 +6,9 @@ use Rattle.octets.specs.Part.{zeros}
 use Rattle.record.specs.Changes.{current}
 use Rattle.record.specs.Octets.{lineFrom}
 use Rattle.table.specs.Table.{slot}
-use Rattle.calls.proofs.Finishing.{decides, refuses}
-use Rattle.calls.proofs.selecting.finish.Statement.{statement}
-use Rattle.calls.proofs.selecting.finish.Tie as tie
+use Rattle.setup.proofs.Finishing.{decides, refuses}
+use Rattle.setup.proofs.finish.Statement.{statement}
+use Rattle.setup.proofs.finish.Tie as tie
 
 refuse-requires : tie.Need-refuse-requires
 refuse-requires c κs = search needs

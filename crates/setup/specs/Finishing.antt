@@ -15,7 +15,7 @@ use Rattle.rules.specs.Answer.{eventRoom, partNamed, PartWithin}
 use Rattle.rules.specs.Call.{Event, lastTime, timed}
 use Rattle.rules.specs.Refusals.{isShort}
 use Rattle.rules.specs.Run.{run}
-use Rattle.calls.specs.Returned.{returned}
+use Rattle.frame.specs.Returned.{returned}
 
 -- whatever the event of which a choice was made: what is returned is what `run` says of its call, and the part lies in the lent octets
 abbrev pub Finishes : Entered → ℕ → Selected → ℕ → List ℕ → ℕ → List ℕ → List ℕ → List ℕ → List ℕ → Type 0

@@ -1,12 +1,12 @@
--- `calls::selecting::is_choice_held` meets its contract: only an address may be held.
+-- `setup::is_choice_held` meets its contract: only an address may be held.
 use denote.Ref.{now}
 use borrow.Author.Needs.{needs}
 use Rattle.attempt.proofs.Told.{of-address, of-country, of-network, of-stop, of-text}
 use Rattle.record.specs.Changes.{current, inForce, withHolds}
 use Rattle.record.specs.Octets.{lineFrom}
 use Rattle.table.specs.Table.{slot}
-use Rattle.calls.proofs.selecting.is_choice_held.Statement.{statement}
-use Rattle.calls.proofs.selecting.is_choice_held.Tie as tie
+use Rattle.setup.proofs.is_choice_held.Statement.{statement}
+use Rattle.setup.proofs.is_choice_held.Tie as tie
 
 enum-known-choice : tie.Need-enum-known-choice
 enum-known-choice c = search needs

@@ -1,4 +1,4 @@
--- `calls::selecting::start` meets its contract.
+-- `setup::start` meets its contract.
 use Prim.Native.Nat.{ℕ}
 use mathlib.Core.Path.{refl, sym}
 use denote.Ref.{now}
@@ -14,9 +14,9 @@ use Rattle.table.specs.Table.{slot}
 use Rattle.rules.specs.Answer.{eventRoom, roomOf}
 use Rattle.rules.specs.Call.{lastTime, start, startNumbers}
 use Rattle.rules.specs.Refusals.{isShort, leastEventRoom, leastRoom}
-use Rattle.calls.proofs.Timed.{turned-away-named}
-use Rattle.calls.proofs.selecting.start.Statement.{statement}
-use Rattle.calls.proofs.selecting.start.Tie as tie
+use Rattle.frame.proofs.Timed.{turned-away-named}
+use Rattle.setup.proofs.start.Statement.{statement}
+use Rattle.setup.proofs.start.Tie as tie
 
 -- behind the choice
 module _ (c : tie.After-start-choice) where

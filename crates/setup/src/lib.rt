@@ -1,5 +1,4 @@
-// From start to the chosen address.
-use crate::refuse;
+// The calls from start to the chosen address.
 use attempt::answered;
 use attempt::choice::Selected;
 use attempt::choice::country_choice;
@@ -9,6 +8,7 @@ use frame::Entered;
 use frame::Moved;
 use frame::enter;
 use frame::move_of;
+use frame::refuse;
 use frame::settle;
 use network::NAME_ROOM;
 use rules::StartNumbers;
@@ -33,8 +33,8 @@ ghost use Rattle.table.specs.Table.{slot, UsedAt};
 ghost use Rattle.rules.specs.Answer.{partNamed, PartWithin};
 ghost use Rattle.rules.specs.Call.{address, country, start, startNumbers, timed};
 ghost use Rattle.rules.specs.Run.{run};
-ghost use Rattle.calls.specs.Finishing.{Finishes};
-ghost use Rattle.calls.specs.Returned.{returned};
+ghost use Rattle.setup.specs.Finishing.{Finishes};
+ghost use Rattle.frame.specs.Returned.{returned};
 
 // Whether a choice is an address that the line of a used record holds at a time.
 fn is_choice_held(table: &[u8], i: usize, time: u64, choice: Choice) -> bool

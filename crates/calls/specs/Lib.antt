@@ -1,3 +1,0 @@
--- What the exported calls return.
-pub mod Returned
-pub mod Finishing

@@ -1,0 +1,2 @@
+-- What the calls from start to the chosen address share.
+pub mod Finishing
