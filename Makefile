@@ -9,17 +9,18 @@ INSTALL = install
 header = include/scaltrovina.h
 archive = target/staticlib/libscaltrovina.a
 example = target/examples/line
-sources := crates.txt $(shell find crates -name '*.rt' -o -name '*.antt')
+sources := crates.txt $(shell find crates -name out -prune -o \( -name '*.rt' -o -name '*.antt' \) -print)
 
 # The version stands in the header alone.
 version = $(shell awk '$$2 ~ /^SCAL_VERSION_(MAJOR|MINOR|PATCH)$$/ { v = v dot $$3; dot = "." } END { print v }' $(header))
 
 all: $(archive)
 
-# `rt check` proves on all processors, and what it has proved `rt staticlib` takes but for the crate itself.
+# `rt lib` proves what is not proved yet, and leaves the archive in the folder of its crate.
 $(archive): $(sources)
-	rt check scaltrovina
-	rt staticlib scaltrovina
+	rt lib scaltrovina
+	mkdir -p $(@D)
+	cp crates/scaltrovina/out/libscaltrovina.a $@
 
 install: $(archive)
 	$(INSTALL) -d '$(DESTDIR)$(PREFIX)/include' '$(DESTDIR)$(PREFIX)/lib/pkgconfig'

@@ -13,30 +13,30 @@ import sys
 ROOT = pathlib.Path(__file__).resolve().parent.parent
 
 # An exported function: its name and its parameters.
-EXPORTED = re.compile(r'#\[no_mangle\]\s*pub extern "C" fn (\w+)\(([^()]*)\) -> u64\s')
+EXPORTED = re.compile(r'#\[unsafe\(no_mangle\)\]\s*pub extern "C" fn (\w+)\(([^()]*)\) -> u64\s')
 
 # The header's bounds, and the definitions that the promises of the calls go by.
 BOUNDS = {
-    'SCAL_TABLE_LENGTH': 'tableLength',
-    'SCAL_RECORDS': 'recordCount',
-    'SCAL_TENANT_MAX': 'lastTenant',
-    'SCAL_LINE_MAX': 'lastLine',
-    'SCAL_NAME_MIN': 'nameRoom',
-    'SCAL_REPLY_MIN': 'replyRoom',
-    'SCAL_LISTING_MIN': 'listingRoom',
-    'SCAL_TEXT_MAX': 'mostText',
-    'SCAL_NAS_MAX': 'mostNas',
-    'SCAL_PARAMETERS_MAX': 'mostParameters',
-    'SCAL_ENTRIES_MAX': 'mostEntries',
-    'SCAL_NETWORK_LENGTH': 'networkLength',
-    'SCAL_ADDRESS_LENGTH': 'addressLength',
-    'SCAL_TIME_MAX': 'lastTime',
-    'SCAL_CODE_MAX': 'mostCode',
-    'SCAL_ERROR_MAX': 'mostError',
-    'SCAL_SPI_MIN': 'leastSpi',
-    'SCAL_SESSION_MAX': 'mostSession',
-    'SCAL_CHILDREN_MAX': 'mostChildren',
-    'SCAL_HOLDS_MAX': 'mostHolds',
+    'SCAL_TABLE_LENGTH': 'table_length',
+    'SCAL_RECORDS': 'record_count',
+    'SCAL_TENANT_MAX': 'last_tenant',
+    'SCAL_LINE_MAX': 'last_line',
+    'SCAL_NAME_MIN': 'name_room',
+    'SCAL_REPLY_MIN': 'reply_room',
+    'SCAL_LISTING_MIN': 'listing_room',
+    'SCAL_TEXT_MAX': 'most_text',
+    'SCAL_NAS_MAX': 'most_nas',
+    'SCAL_PARAMETERS_MAX': 'most_parameters',
+    'SCAL_ENTRIES_MAX': 'most_entries',
+    'SCAL_NETWORK_LENGTH': 'network_length',
+    'SCAL_ADDRESS_LENGTH': 'address_length',
+    'SCAL_TIME_MAX': 'last_time',
+    'SCAL_CODE_MAX': 'most_code',
+    'SCAL_ERROR_MAX': 'most_error',
+    'SCAL_SPI_MIN': 'least_spi',
+    'SCAL_SESSION_MAX': 'most_session',
+    'SCAL_CHILDREN_MAX': 'most_children',
+    'SCAL_HOLDS_MAX': 'most_holds',
 }
 
 # Bounds that no definition is the number of; tests/fields.c tries them.
@@ -135,8 +135,8 @@ def source_calls(folder):
     for path in sorted(folder.rglob('*.rt')):
         text = re.sub(r'//.*', '', path.read_text(encoding='utf-8'))
         exported = EXPORTED.findall(text)
-        if len(exported) != max(text.count('#[no_mangle]'), text.count('extern "C"')):
-            raise Unclear(f'{path.name}: an exported function is not of the form #[no_mangle] pub extern "C" fn .. -> u64')
+        if len(exported) != max(text.count('#[unsafe(no_mangle)]'), text.count('extern "C"')):
+            raise Unclear(f'{path.name}: an exported function is not of the form #[unsafe(no_mangle)] pub extern "C" fn .. -> u64')
         for name, parameters in exported:
             calls[name] = list(filter(None, map(spaced, parameters.split(','))))
     return calls

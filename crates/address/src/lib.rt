@@ -1,23 +1,25 @@
 // IP addresses of both versions, and when one is permitted.
+#![tactic(auto)]
+
 ghost use Rattle.std.specs.Prelude.{◌≡◌, ◌≤◌, drop, take};
 ghost use Rattle.address.specs.Address.{held_addresses, most_holds, same_address, stands, version_of};
 
 // An address: 32 bits of version 4, or the two halves of 128 bits of version 6.
-#[derive(Drop)]
+#[derive(Clone, Copy)]
 pub enum Address {
     V4(u64),
     V6(u64, u64),
 }
 
 // When a hold ends.
-#[derive(Drop)]
+#[derive(Clone, Copy)]
 pub enum End {
     At(u64),
     Never,
 }
 
 // An address on hold until it is free again.
-#[derive(Drop)]
+#[derive(Clone, Copy)]
 pub struct Hold {
     pub address: Address,
     pub end: End,

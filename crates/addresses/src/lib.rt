@@ -1,4 +1,6 @@
 // Addresses in octets.
+#![tactic(auto)]
+
 ghost use Rattle.std.specs.Prelude.{◌≡◌, ◌+◌, ◌≤◌, length};
 ghost use Rattle.octets.specs.Part.{Wrote};
 ghost use Rattle.addresses.specs.Addresses.{address_from, address_length, address_octets, is_address};

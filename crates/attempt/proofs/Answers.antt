@@ -50,7 +50,7 @@ module _ (e : Event) (time : ℕ) (line f : Record) (r : Stepped) (text name : L
   pub carried_out : refusal (refusals_of e (ltb last_time time) (line_of f)) ≡ 0 → (o : Outcome) → outcome e (line_of f) ≡ o → (room : ℕ) → room ≡ event_room e
       → (m : Move) → Says m (line_of f) o text name room → Gives r 0 (in_phase (line_of f) m.phase) m.action → Answers e time line r text name
   carried_out number o is room sized m s g =
-      let gives : Gives r 0 o.line o.action = record { refusal_is = g.refusal-is; line_is = g.line_is ∙ sym s.line_is; action_is = g.action_is ∙ s.action_is; in_arrays = g.in_arrays } in (
+      let gives : Gives r 0 o.line o.action = record { refusal_is = g.refusal_is; line_is = g.line_is ∙ sym s.line_is; action_is = g.action_is ∙ s.action_is; in_arrays = g.in_arrays } in (
         ap₂ (effect_in r) (ap (λ (a : Action). part_named (numbers_of a) text name []) g.action_is ∙ s.part_is) (s.name_is ∙ ap (λ (k : ℕ). padded k o.written) sized)
             ∙ taken e time line f r is_found number o is gives,
         (rw g.action_is s.part_within, g.in_arrays),

@@ -1,4 +1,6 @@
 // What a choice and the address answer come to: the phase that a line goes to, and what the daemon has to do.
+#![tactic(auto)]
+
 ghost use Rattle.std.specs.Prelude.{List, ◌≡◌, ◌*◌, ◌≤◌, length};
 ghost use Rattle.octets.specs.Row.{only};
 ghost use Rattle.address.specs.Address.{held_addresses};
@@ -27,7 +29,7 @@ use selection::Choice;
 use step::{Stepped, current, goes, is_late, refused};
 
 // The phase that a line goes to, and what the daemon has to do.
-#[derive(Drop)]
+#[derive(Clone, Copy)]
 pub struct Move {
     pub phase: Phase,
     pub action: Action,

@@ -1,3 +1,5 @@
 // Octets in lent slices: numbers read and written, runs cleared, copied and tested.
+#![tactic(auto)]
+
 pub mod number;
 pub mod slice;

@@ -1,8 +1,10 @@
 // What the child associations of a line are in octets.
+#![tactic(auto)]
+
 ghost use Rattle.children.specs.Laws.{Laws};
 
 // A child association.
-#[derive(Drop)]
+#[derive(Clone, Copy)]
 pub struct Child {
     pub spi: u64,
     pub session: u64,
@@ -18,7 +20,7 @@ pub const CHILD: usize = 5;
 pub const CHILDREN_ROOM: usize = CHILDREN * CHILD;
 
 // The children of a line: those below the count.
-#[derive(Drop)]
+#[derive(Clone, Copy)]
 pub struct Children {
     pub list: [Child; CHILDREN],
     pub count: usize,

@@ -1,4 +1,6 @@
 // Choosing a network and a gateway, up to the name that is asked: the code of S1 to S4.
+#![tactic(auto)]
+
 ghost use Rattle.std.specs.Prelude.{◌≡◌};
 ghost use Rattle.network.specs.Plmn.{plmn_option};
 ghost use Rattle.config.specs.Settings.{Counted, settings_in};

@@ -1,4 +1,8 @@
 // The configuration text.
+#![tactic(auto)]
+
+ghost use Rattle.config.specs.Places.{Places};
+
 use address::Address;
 use network::Plmn;
 
@@ -9,14 +13,14 @@ pub const MOST_TEXT: usize = 1024;
 pub const MOST_LISTED: usize = 16;
 
 // The kinds of entry that are listed.
-#[derive(Drop)]
+#[derive(Clone, Copy)]
 pub enum Kind {
     Plmn,
     Bar,
 }
 
 // Where the `node` entry sends a line: a name that stands in the text, an address, or nowhere.
-#[derive(Drop)]
+#[derive(Clone, Copy)]
 pub enum Node {
     None,
     Name { at: usize, length: usize },
@@ -24,7 +28,7 @@ pub enum Node {
 }
 
 // A configuration, whose `plmn` entries and barred PLMNs lie in two lists beside it: those below their counts, each kept as one number.
-#[derive(Drop)]
+#[derive(Clone, Copy)]
 pub struct Config {
     pub home: Plmn,
     pub node: Node,
@@ -33,8 +37,13 @@ pub struct Config {
 }
 
 // A configuration, where the text is well formed.
-#[derive(Drop)]
+#[derive(Clone, Copy)]
 pub struct Parsed {
     pub ok: bool,
     pub config: Config,
 }
+
+// Does nothing; its promise is where a node name stands in a text that has one.
+pub fn places()
+    ensures { Places }
+{}

@@ -1,4 +1,6 @@
 // Numbers in eight places, put there and compared with each other in few instructions.
+#![tactic(auto)]
+
 ghost use Rattle.std.specs.Prelude.{cond, ◌≡◌, ◌≤◌};
 ghost use Rattle.differ.specs.Differ.{all_differ, differs_on, places, Twice};
 ghost use Rattle.octets.specs.Search.{all};

@@ -1,4 +1,6 @@
 // The reader of EAP-5G packets.
+#![tactic(auto)]
+
 ghost use Rattle.std.specs.Prelude.{◌≡◌, ◌≤◌, length};
 ghost use Rattle.octets.specs.Digits.{field};
 ghost use Rattle.eap.specs.Packet.{fits, is_expanded, is_message, is_nas, is_nas_request, is_parameters, is_success, read_packet};
@@ -16,7 +18,7 @@ pub const MOST_NAS: usize = 2048;
 const EXPANDED: u64 = 216172785052418302;
 
 // A packet: its identifier, and where its AN-parameters and its NAS stand and how long they are.
-#[derive(Drop)]
+#[derive(Clone, Copy)]
 pub enum Packet {
     Start {
         identifier: u64,
@@ -44,7 +46,7 @@ pub enum Packet {
 }
 
 // Octets behind their length: how many they are.
-#[derive(Drop)]
+#[derive(Clone, Copy)]
 pub enum Block {
     Length(usize),
     Broken,

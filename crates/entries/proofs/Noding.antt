@@ -24,7 +24,6 @@ use Rattle.entry.specs.Field.{is_name}
 use Rattle.fields.specs.Read.{NameEndIs}
 use Rattle.entry.specs.declared.Entry.{Entry}
 use Rattle.entry.specs.declared.Entry.TheVariants.{Home, Name, Preference, Bar, Bad}
-use Rattle.entry.specs.declared.Entry.TheVariants as Entry
 use Rattle.fields.proofs.Characters.{hex_free, name_free}
 use Rattle.fields.proofs.Names.{name_stands}
 use Rattle.fields.proofs.Places.{field_at, field_stands}
@@ -33,7 +32,6 @@ use Rattle.entries.specs.Branch.{NodeBegins, NodedIs, ends_after, version_word}
 use Rattle.config.specs.Lines.{entries_from}
 use Rattle.config.specs.Settings.{NodeWithin, after_node, as_node, first_node, left, node_or}
 use Rattle.config.specs.declared.Node.{Node}
-use Rattle.config.specs.declared.Node.TheVariants as Node
 use Rattle.entries.specs.declared.nodes.Noded.{Noded}
 use Rattle.entries.proofs.Runs.{by_silence}
 use Rattle.entries.proofs.Stands.{Plain, Stands, line₃, plain_name, plain_node, plain_v4, plain_v6, three_line}

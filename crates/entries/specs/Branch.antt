@@ -6,7 +6,6 @@ use Rattle.entry.specs.Entry.{before_name}
 use Rattle.entry.specs.Pieces.{newline_code, tab_code}
 use Rattle.entry.specs.declared.Entry.TheVariants.{Home}
 use Rattle.fields.specs.declared.read.PlmnAt.{PlmnAt}
-use Rattle.fields.specs.declared.read.PlmnAt.TheVariants as PlmnAt
 use Rattle.config.specs.Lines.{entries_from, line_end}
 use Rattle.config.specs.Settings.{after_node, as_listed, config_of, first_node, listed_in, rest, section, NodeWithin}
 use Rattle.config.specs.declared.Kind.{Kind}

@@ -35,7 +35,7 @@ pub(crate) fn kept(p: Plmn, priority: u64) -> u64
 }
 
 // What a reader of a listed entry finds at a place.
-#[derive(Drop)]
+#[derive(Clone, Copy)]
 pub enum Listed {
     // The number that keeps the entry, and the place behind its line.
     Is(u64, usize),

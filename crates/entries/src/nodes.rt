@@ -37,7 +37,7 @@ const DIGITS_6: usize = 32;
 const HALF: usize = 16;
 
 // What `node` says, and where the entries behind it begin.
-#[derive(Drop)]
+#[derive(Clone, Copy)]
 pub struct Noded {
     pub node: Node,
     pub next: usize,

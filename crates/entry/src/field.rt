@@ -8,7 +8,7 @@ pub const MOST_NAME: usize = 253;
 pub const MOST_PRIORITY: u64 = 255;
 
 // A `plmn` entry: a PLMN and its priority, 0 the best.
-#[derive(Drop)]
+#[derive(Clone, Copy)]
 pub struct Preferred {
     pub plmn: Plmn,
     pub priority: u64,

@@ -1,4 +1,6 @@
 // Entries of the configuration text, one a line: its fields are parted by one tab.
+#![tactic(auto)]
+
 pub mod field;
 
 use address::Address;
@@ -15,7 +17,7 @@ pub const TAB: u8 = 9;
 pub const NEWLINE: u8 = 10;
 
 // What a line says.
-#[derive(Drop)]
+#[derive(Clone, Copy)]
 pub enum Entry {
     Home(Plmn),
     // The length of a node name.

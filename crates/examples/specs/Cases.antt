@@ -6,7 +6,6 @@ use Rattle.octets.specs.Part.{padded, zeros}
 use Rattle.text.specs.Text.{digit_text, text}
 use Rattle.rules.specs.Answer.{Answer, numbers_of, number_count}
 use Rattle.rules.specs.declared.Action.{Action}
-use Rattle.rules.specs.declared.Action.TheVariants as Action
 use Rattle.rules.specs.Call.{Event, start, begin, init, eap, reply, final, congestion, Call, opening, start_numbers, timed}
 use Rattle.rules.specs.declared.StartNumbers.{StartNumbers}
 

@@ -6,7 +6,6 @@ use Rattle.address.specs.Address.{high, low, number_of, version_of}
 use Rattle.address.specs.declared.Address.TheVariants.{V4, V6}
 use Rattle.rules.specs.Answer.{numbers_of, twelve}
 use Rattle.rules.specs.declared.Action.{Action}
-use Rattle.rules.specs.declared.Action.TheVariants as Action
 use Rattle.rules.specs.Call.{Event, start, begin, init, eap, reply, final, error, congestion, give_up, child_made, child_deleted, ike_delete, Call, opening, closing, listing, timed}
 use Rattle.examples.specs.Cases.{acts, at_home, at_home6, congest, declined, done, first_reply, lists, nas, nas_packet, node, node6, node_at, now, own, parameters, plain, shown, start_packet, success, to_answered, to_auth, to_chosen, to_country, to_first, to_idle, to_init, to_live, to_name, to_owed, to_sure, writes, later_reply}
 use Rattle.examples.specs.Computed.{Example, got, said}

@@ -9,7 +9,6 @@ use Rattle.octets.specs.Row.{joined, row}
 use Rattle.text.specs.Text.{text}
 use Rattle.rules.specs.Answer.{Answer}
 use Rattle.rules.specs.declared.Action.{Action}
-use Rattle.rules.specs.declared.Action.TheVariants as Action
 use Rattle.rules.specs.Call.{start, country, address, Call, start_numbers}
 use Rattle.rules.specs.declared.StartNumbers.{StartNumbers}
 use Rattle.examples.specs.Cases.{abroad, abroad6, acts, at_home, at_home6, congest, named, network, node, node6, now, plain, registered_to, roaming, shown, to_idle, to_name, writes}

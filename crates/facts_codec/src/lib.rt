@@ -1,4 +1,6 @@
 // Place facts read from their octets, written and tested there.
+#![tactic(auto)]
+
 ghost use Rattle.std.specs.Prelude.{◌&&◌, ◌≡◌, ◌+◌, ◌≤◌, length};
 ghost use Rattle.octets.specs.Part.{Wrote};
 ghost use Rattle.phase.specs.Branch.{is_place, is_registered};

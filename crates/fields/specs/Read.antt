@@ -8,9 +8,7 @@ use Rattle.network.specs.declared.Plmn.{Plmn}
 use Rattle.entry.specs.Field.{is_name_character, plmn_of, priority_of}
 use Rattle.entry.specs.Pieces.{newline_code, tab_code}
 use Rattle.fields.specs.declared.read.PlmnAt.{PlmnAt}
-use Rattle.fields.specs.declared.read.PlmnAt.TheVariants as PlmnAt
 use Rattle.fields.specs.declared.read.PriorityAt.{PriorityAt}
-use Rattle.fields.specs.declared.read.PriorityAt.TheVariants as PriorityAt
 
 -- the octet k places on from a place is a digit
 unfoldable pub digit_on : List ℕ → ℕ → ℕ → Bool

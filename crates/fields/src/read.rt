@@ -8,7 +8,7 @@ use entry::{NEWLINE, TAB};
 use network::Plmn;
 
 // What a reader of a PLMN finds at a place.
-#[derive(Drop)]
+#[derive(Clone, Copy)]
 pub enum PlmnAt {
     // A PLMN, and the place behind the octet that ends it.
     Is(Plmn, usize),
@@ -17,7 +17,7 @@ pub enum PlmnAt {
 }
 
 // What a reader of a priority finds at a place.
-#[derive(Drop)]
+#[derive(Clone, Copy)]
 pub enum PriorityAt {
     // A priority, and the place behind the newline that ends it.
     Is(u64, usize),

@@ -1,4 +1,6 @@
 // What the calls on the table share at their entry: the tests, and the record that a timed call is about.
+#![tactic(auto)]
+
 ghost use Rattle.std.specs.Prelude.{◌≡◌, length};
 ghost use Rattle.octets.specs.Part.{zeros};
 ghost use Rattle.octets.specs.Refusal.{refusal};
@@ -13,7 +15,7 @@ use sound::is_sound;
 use table::RECORDS;
 
 // What the entry tests of a timed call leave: their refusal number, and where that is 0 the pair and the record that the call is about.
-#[derive(Drop)]
+#[derive(Clone, Copy)]
 pub struct Entered {
     pub refusal: u64,
     pub pair: u64,

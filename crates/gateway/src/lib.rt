@@ -1,4 +1,6 @@
 // Choosing an address of the gateway.
+#![tactic(auto)]
+
 ghost use Rattle.std.specs.Prelude.{List, [], ◌∷◌, ◌≡◌, ◌*◌, ◌≤◌, length};
 ghost use Rattle.address.specs.Address.{stands};
 ghost use Rattle.address.specs.declared.Address.{Address};
@@ -13,7 +15,7 @@ use addresses::ADDRESS;
 use lists::{ENTRIES, address_at};
 
 // What a list of addresses gives.
-#[derive(Drop)]
+#[derive(Clone, Copy)]
 pub enum Found {
     // An address, and how many were passed over before it.
     Chosen(Address, usize),

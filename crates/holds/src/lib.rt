@@ -1,4 +1,6 @@
 // What the holds of a line are in octets.
+#![tactic(auto)]
+
 ghost use Rattle.holds.specs.Laws.{Laws};
 
 use address::{HOLDS, Hold};
@@ -11,7 +13,7 @@ pub const HOLD: usize = ADDRESS + 5;
 pub const HOLDS_ROOM: usize = HOLDS * HOLD;
 
 // The holds of a line: those below the count.
-#[derive(Drop)]
+#[derive(Clone, Copy)]
 pub struct Holds {
     pub list: [Hold; HOLDS],
     pub count: usize,

@@ -1,7 +1,6 @@
 -- The events that change the phase alone.
 use Rattle.rules.specs.Call.{Event, begin, error, final, give_up, init}
 use Rattle.ike.specs.declared.event.IkeEvent.{IkeEvent}
-use Rattle.ike.specs.declared.event.IkeEvent.TheVariants as IkeEvent
 
 -- an event of the code as one of the rules
 abbrev pub event_of : IkeEvent → Event

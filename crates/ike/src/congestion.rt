@@ -19,7 +19,7 @@ use step::{Stepped, current, goes, is_late, refused};
 use timer::Timer;
 
 // A hold or none, by their count.
-#[derive(Drop)]
+#[derive(Clone, Copy)]
 pub(crate) struct MaybeHold {
     pub hold: Hold,
     pub count: usize,

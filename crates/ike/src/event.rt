@@ -9,7 +9,7 @@ use record::Record;
 use step::Stepped;
 
 // An event that changes the phase alone.
-#[derive(Drop)]
+#[derive(Clone, Copy)]
 pub enum IkeEvent {
     Begin,
     InitAnswer,

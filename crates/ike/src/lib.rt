@@ -1,4 +1,6 @@
 // The IKE association of a line, step by step.
+#![tactic(auto)]
+
 pub mod congestion;
 pub mod event;
 

@@ -1,4 +1,6 @@
 // Steps on a line's record that is lent, of the events that come with numbers alone: it is changed where it lies.
+#![tactic(auto)]
+
 ghost use Rattle.std.specs.Prelude.{true, [], ◌≡◌};
 ghost use Rattle.record.specs.Line.{line_of, InArrays};
 ghost use Rattle.record.specs.Sound.{holds_sound};
@@ -14,7 +16,7 @@ use step::Stepped;
 use tunnel::{child_deleted, child_made, ike_delete};
 
 // An event that comes with numbers alone.
-#[derive(Drop)]
+#[derive(Clone, Copy)]
 pub enum Event {
     Begin,
     InitAnswer,
@@ -33,7 +35,7 @@ pub enum Event {
 }
 
 // What a step on a lent record tells: the refusal number from 8 to 13 or 0, and what the daemon has to do.
-#[derive(Drop)]
+#[derive(Clone, Copy)]
 pub struct Told {
     pub refusal: u64,
     pub action: Action,

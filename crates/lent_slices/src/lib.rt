@@ -1,4 +1,6 @@
 // Steps on a line's record that is lent, of the events that come with slices.
+#![tactic(auto)]
+
 ghost use Rattle.std.specs.Prelude.{[], ◌≡◌, ◌≤◌, length};
 ghost use Rattle.network.specs.Name.{name_room};
 ghost use Rattle.record.specs.Line.{line_of, InArrays};

@@ -1,4 +1,6 @@
 // The fields of a listing: each is stored from a place on, and the place behind it comes back.
+#![tactic(auto)]
+
 ghost use Rattle.std.specs.Prelude.{true, ◌++◌, ◌≡◌, ◌≤◌, length};
 ghost use Rattle.std.proofs.Math.Option.{some};
 ghost use Rattle.phase.specs.Chosen.{chosen};

@@ -1,4 +1,6 @@
 // Lent lists of networks and of addresses, read entry by entry.
+#![tactic(auto)]
+
 ghost use Rattle.std.specs.Prelude.{◌≡◌, ◌+◌, ◌*◌, ◌≤◌, ◌<◌, length};
 ghost use Rattle.addresses.specs.Addresses.{address_length};
 ghost use Rattle.lists.specs.Lists.{address_at, addresses_fit, address_fits, network_at, network_fits, network_length, networks_fit, whole};

@@ -1,4 +1,6 @@
 // Networks, each known by its PLMN, and the names under which their N3IWFs are looked up.
+#![tactic(auto)]
+
 ghost use Rattle.std.specs.Prelude.{◌≡◌};
 ghost use Rattle.network.specs.Laws.{Laws};
 ghost use Rattle.network.specs.Plmn.{same_plmn};
@@ -10,14 +12,14 @@ pub const MOST_CODE: u64 = 999;
 pub const NAME_ROOM: usize = 64;
 
 // A PLMN: the code of a country and the code of a network within it.
-#[derive(Drop)]
+#[derive(Clone, Copy)]
 pub struct Plmn {
     pub mcc: u64,
     pub mnc: u64,
 }
 
 // A PLMN or none.
-#[derive(Drop)]
+#[derive(Clone, Copy)]
 pub enum MaybePlmn {
     Is(Plmn),
     None,

@@ -4,8 +4,6 @@ use mathlib.Core.Bool.{Bool, true, false, cond}
 use mathlib.Core.List.{List, [], ◌∷◌}
 use mathlib.Core.Path.{◌≡◌, refl, ap₂}
 use lib.ListN.{length}
-use denote.Enum.Declared.{tag_of}
-use types.Run.{OneOf, miss}
 use borrow.Author.Tests.{le-ltb, lt-ltb, ne_eqb}
 use Rattle.octets.specs.Digits.{field}
 use Rattle.octets.specs.Refusal.{◌when◌, refusal}
@@ -14,7 +12,6 @@ use Rattle.parameters.specs.declared.Parameter.{Parameter}
 use Rattle.eap.specs.declared.Packet.{Packet}
 use Rattle.eap.specs.declared.Packet.TheVariants.{Start, NasRequest, Success, NasResponse, Stop, Other}
 use Rattle.eap.specs.Packet.{identifier, is_message, is_nas_request, is_nas_response, is_request, is_success, nas_place, packet_numbers, read_packet}
-use Rattle.eap.specs.contracts.Packet.{the_type}
 use Rattle.response.specs.Response.{write_refusal, written, written_packet}
 use Rattle.timer.specs.Timer.{timer_numbers, timer_of}
 use Rattle.timer.specs.declared.Timer.{Timer}
@@ -47,12 +44,12 @@ no_message l other = rw other (go (is_success l) (is_message 1 1 l) (is_nas_requ
     go false false false false = refl
 
 -- every packet but a NAS response is turned away as a response
-pub no_response : (p : Packet) → OneOf (0 ∷ 1 ∷ 2 ∷ 4 ∷ 5 ∷ []) (tag_of the_type p) → refused_by 9 0 ≡ response_answer p
+pub no_response : (p : Packet) → ((i from long at n : ℕ) → p ≡ NasResponse i from long at n → ⊥) → refused_by 9 0 ≡ response_answer p
 unfolding response_answer
 no_response (Start i) k = refl
 no_response (NasRequest i at n) k = refl
 no_response (Success i) k = refl
-no_response (NasResponse i p m at n) k = absurd (miss (0 ∷ 1 ∷ 2 ∷ 4 ∷ 5 ∷ []) 3 tt k)
+no_response (NasResponse i p m at n) k = absurd (k i p m at n refl)
 no_response (Stop i) k = refl
 no_response Other k = refl
 

@@ -1,4 +1,6 @@
 // The calls without a table: reading and writing packets, AN-parameters one by one, the timer octet.
+#![tactic(auto)]
+
 ghost use Rattle.std.specs.Prelude.{[], ◌≡◌, length};
 ghost use Rattle.packets.specs.Packets.{fields_only, packet_returned, read_parameter, read_request, read_response, read_timer, refused_by, write_response};
 

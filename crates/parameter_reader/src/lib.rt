@@ -1,4 +1,6 @@
 // AN-parameters read one after another: at a place, a whole block, and by a reader that keeps hold of a block and its place.
+#![tactic(auto)]
+
 pub mod reader;
 
 ghost use Rattle.std.specs.Prelude.{◌≡◌};

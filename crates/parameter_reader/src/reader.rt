@@ -7,7 +7,7 @@ use crate::parameter_at;
 use parameters::Parameter;
 
 // A block of AN-parameters and a place in it.
-#[derive(Drop)]
+#[derive(Clone, Copy)]
 pub struct Reader<'a> {
     pub block: &'a [u8],
     pub at: usize,

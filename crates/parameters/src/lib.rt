@@ -1,11 +1,13 @@
 // AN-parameters: each is a type octet, a length octet and that many octets.
+#![tactic(auto)]
+
 ghost use Rattle.parameters.specs.Laws.{Laws};
 
 // The most octets that AN-parameters have in all.
 pub const MOST_PARAMETERS: usize = 1024;
 
 // What stands at a place of a block of AN-parameters.
-#[derive(Drop)]
+#[derive(Clone, Copy)]
 pub enum Parameter {
     // A whole one: its type, where its value starts, how long that is, and the place after it.
     Whole {

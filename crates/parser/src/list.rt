@@ -21,7 +21,7 @@ fn listed_at(text: &[u8], at: usize, kind: Kind) -> Listed
 }
 
 // The entries of one kind from a place on: how many there are, and where the next line begins.
-#[derive(Drop)]
+#[derive(Clone, Copy)]
 pub(crate) struct Section {
     pub ok: bool,
     pub count: usize,

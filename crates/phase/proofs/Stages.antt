@@ -8,12 +8,16 @@ use mir.Val.{has_key}
 use denote.Enum.Declared.{tag_of}
 use types.Run.{OneOf, miss}
 use borrow.Author.Tests.{eq-eqb, ne_eqb}
-use Rattle.phase.specs.Stage.{Stage, is_in, stage_number, stage_of}
+use Rattle.address.specs.declared.Address.{Address}
+use Rattle.place.specs.declared.Facts.{Facts}
+use Rattle.phase.specs.declared.Turn.{Turn}
+use Rattle.phase.specs.Stage as Stage
+use Rattle.phase.specs.Stage.{is_in, stage_number, stage_of}
 use Rattle.phase.specs.declared.Phase.{Phase}
 use Rattle.phase.specs.declared.Phase.TheVariants.{Idle, Country, Name, Chosen, Init, Auth, Eap, Sure, Live}
 use Rattle.phase.specs.contracts.Phase.{the_type}
 
-module _ (s : Stage) (p : Phase) (n : ℕ) (number : n ≡ stage_number (stage_of p)) where
+module _ (s : Stage.Stage) (p : Phase) (n : ℕ) (number : n ≡ stage_number (stage_of p)) where
   pub is_in_lem : n ≡ stage_number s → is_in s p ≡ true
   unfolding is_in
   is_in_lem e = eq-eqb (stage_number (stage_of p)) (stage_number s) (sym number ∙ e)
@@ -52,7 +56,7 @@ no_key k (n ∷ ns) = go (eqb n k) refl (no_key k ns)
     go false e rest = rw e rest
 
 -- the pattern of a phase did not match
-pub other_stage : (s : Stage) (p : Phase) (ns : List ℕ) → OneOf (without (stage_number s) ns) (tag_of the_type p) → is_in s p ≡ false
+pub other_stage : (s : Stage.Stage) (p : Phase) (ns : List ℕ) → OneOf (without (stage_number s) ns) (tag_of the_type p) → is_in s p ≡ false
 other_stage s p ns k =
     let ks = without (stage_number s) ns in
     not_in s p (tag_of the_type p) (tag_number p) (λ e. miss ks (stage_number s) (no_key (stage_number s) ns) (subst (OneOf ks) e k))
@@ -60,3 +64,94 @@ other_stage s p ns k =
 -- the pattern of a phase matched
 pub same_stage : {p q : Phase} → p ≡ q → is_in (stage_of q) p ≡ true
 same_stage {p} {q} e = is_in_lem (stage_of q) p (stage_number (stage_of q)) (ap (λ (x : Phase). stage_number (stage_of x)) (sym e)) refl
+
+-- a phase that is not Country
+pub not_country : (p : Phase) → ((f : Facts) → p ≡ Country f → ⊥) → is_in Stage.country p ≡ false
+unfolding is_in
+not_country Idle h = refl
+not_country (Country f) h = absurd (h f refl)
+not_country (Name f) h = refl
+not_country (Chosen a) h = refl
+not_country (Init a) h = refl
+not_country (Auth a) h = refl
+not_country (Eap a t) h = refl
+not_country (Sure a) h = refl
+not_country (Live a) h = refl
+
+-- a phase that is not Name
+pub not_name : (p : Phase) → ((f : Facts) → p ≡ Name f → ⊥) → is_in Stage.name p ≡ false
+unfolding is_in
+not_name Idle h = refl
+not_name (Country f) h = refl
+not_name (Name f) h = absurd (h f refl)
+not_name (Chosen a) h = refl
+not_name (Init a) h = refl
+not_name (Auth a) h = refl
+not_name (Eap a t) h = refl
+not_name (Sure a) h = refl
+not_name (Live a) h = refl
+
+-- a phase that is not Chosen
+pub not_chosen : (p : Phase) → ((a : Address) → p ≡ Chosen a → ⊥) → is_in Stage.chosen p ≡ false
+unfolding is_in
+not_chosen Idle h = refl
+not_chosen (Country f) h = refl
+not_chosen (Name f) h = refl
+not_chosen (Chosen a) h = absurd (h a refl)
+not_chosen (Init a) h = refl
+not_chosen (Auth a) h = refl
+not_chosen (Eap a t) h = refl
+not_chosen (Sure a) h = refl
+not_chosen (Live a) h = refl
+
+-- a phase that is not Init
+pub not_init : (p : Phase) → ((a : Address) → p ≡ Init a → ⊥) → is_in Stage.init p ≡ false
+unfolding is_in
+not_init Idle h = refl
+not_init (Country f) h = refl
+not_init (Name f) h = refl
+not_init (Chosen a) h = refl
+not_init (Init a) h = absurd (h a refl)
+not_init (Auth a) h = refl
+not_init (Eap a t) h = refl
+not_init (Sure a) h = refl
+not_init (Live a) h = refl
+
+-- a phase that is not Auth
+pub not_auth : (p : Phase) → ((a : Address) → p ≡ Auth a → ⊥) → is_in Stage.auth p ≡ false
+unfolding is_in
+not_auth Idle h = refl
+not_auth (Country f) h = refl
+not_auth (Name f) h = refl
+not_auth (Chosen a) h = refl
+not_auth (Init a) h = refl
+not_auth (Auth a) h = absurd (h a refl)
+not_auth (Eap a t) h = refl
+not_auth (Sure a) h = refl
+not_auth (Live a) h = refl
+
+-- a phase that is not Eap
+pub not_eap : (p : Phase) → ((a : Address) (t : Turn) → p ≡ Eap a t → ⊥) → is_in Stage.eap p ≡ false
+unfolding is_in
+not_eap Idle h = refl
+not_eap (Country f) h = refl
+not_eap (Name f) h = refl
+not_eap (Chosen a) h = refl
+not_eap (Init a) h = refl
+not_eap (Auth a) h = refl
+not_eap (Eap a t) h = absurd (h a t refl)
+not_eap (Sure a) h = refl
+not_eap (Live a) h = refl
+
+-- a phase that is not Sure
+pub not_sure : (p : Phase) → ((a : Address) → p ≡ Sure a → ⊥) → is_in Stage.sure p ≡ false
+unfolding is_in
+not_sure Idle h = refl
+not_sure (Country f) h = refl
+not_sure (Name f) h = refl
+not_sure (Chosen a) h = refl
+not_sure (Init a) h = refl
+not_sure (Auth a) h = refl
+not_sure (Eap a t) h = refl
+not_sure (Sure a) h = absurd (h a refl)
+not_sure (Live a) h = refl

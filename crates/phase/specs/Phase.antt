@@ -6,7 +6,6 @@ use Rattle.address.specs.declared.Address.{Address}
 use Rattle.addresses.specs.Addresses.{address_octets, address_from, is_address}
 use Rattle.place.specs.declared.Facts.{Facts}
 use Rattle.place.specs.declared.Place.{Place}
-use Rattle.place.specs.declared.Place.TheVariants as Place
 use Rattle.phase.specs.Facts.{facts_octets, facts_from, facts_fit, facts_written}
 use Rattle.phase.specs.Stage.{stage_number}
 use Rattle.phase.specs.Stage as Stage

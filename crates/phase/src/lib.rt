@@ -1,4 +1,6 @@
 // What a line does, with the data of its phase, in octets.
+#![tactic(auto)]
+
 ghost use Rattle.std.specs.Prelude.{◌≡◌};
 ghost use Rattle.phase.specs.Awaited.{awaited_in, facts_option};
 ghost use Rattle.phase.specs.Chosen.{address_option, chosen};
@@ -9,7 +11,7 @@ use address::Address;
 use place::Facts;
 
 // How far an EAP session is: the identifier that is owed or was answered last.
-#[derive(Drop)]
+#[derive(Clone, Copy)]
 pub enum Turn {
     // Owed, and the session's first reply is still to come.
     First(u64),
@@ -20,7 +22,7 @@ pub enum Turn {
 }
 
 // A phase with its own data: the place facts while DNS runs, the chosen address from then on, identifiers during EAP.
-#[derive(Drop)]
+#[derive(Clone, Copy)]
 pub enum Phase {
     Idle,
     Country(Facts),
@@ -34,21 +36,21 @@ pub enum Phase {
 }
 
 // An address or none.
-#[derive(Drop)]
+#[derive(Clone, Copy)]
 pub enum MaybeAddress {
     Is(Address),
     None,
 }
 
 // Place facts or none.
-#[derive(Drop)]
+#[derive(Clone, Copy)]
 pub enum MaybeFacts {
     Are(Facts),
     None,
 }
 
 // What a phase says beside its place facts and its address: its number and, of an EAP session, how far it is and the identifier.
-#[derive(Drop)]
+#[derive(Clone, Copy)]
 pub struct Standing {
     pub stage: u64,
     pub turn: u64,

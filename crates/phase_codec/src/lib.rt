@@ -1,4 +1,6 @@
 // A phase read from its octets, written and tested there.
+#![tactic(auto)]
+
 ghost use Rattle.std.specs.Prelude.{◌≡◌, ◌+◌, ◌≤◌, length};
 ghost use Rattle.octets.specs.Part.{Wrote};
 ghost use Rattle.phase.specs.Awaited.{awaited_in, facts_option};

@@ -1,8 +1,10 @@
 // Where a line is.
+#![tactic(auto)]
+
 use network::MaybePlmn;
 
 // The place of a line.
-#[derive(Drop)]
+#[derive(Clone, Copy)]
 pub enum Place {
     Unknown,
     Home,
@@ -11,7 +13,7 @@ pub enum Place {
 }
 
 // What start gives: where the line is, the PLMN that it is registered to, and the local IP version, 4 or 6.
-#[derive(Drop)]
+#[derive(Clone, Copy)]
 pub struct Facts {
     pub place: Place,
     pub registered: MaybePlmn,

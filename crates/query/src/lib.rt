@@ -1,4 +1,6 @@
 // The name that is asked of DNS, built or found in the configuration text.
+#![tactic(auto)]
+
 ghost use Rattle.std.specs.Prelude.{◌++◌, [], ◌≡◌, ◌+◌, ◌≤◌, length};
 ghost use Rattle.octets.specs.Part.{Wrote};
 ghost use Rattle.text.specs.Text.{digit_text};
@@ -20,7 +22,7 @@ fn put_code(buffer: &mut [u8], at: usize, label: &[u8], code: u64)
 }
 
 // Writes the name of an operator's network, with zeros after it, and returns its length.
-fn operator_name(buffer: &mut [u8], plmn: Plmn) -> usize
+pub fn operator_name(buffer: &mut [u8], plmn: Plmn) -> usize
     requires { name_room ≤ length buffer.old }
     ensures { Named (operator_name plmn) (length buffer.old) buffer.new result }
 {
@@ -32,7 +34,7 @@ fn operator_name(buffer: &mut [u8], plmn: Plmn) -> usize
 }
 
 // Writes the name of a visited country, with zeros after it, and returns its length.
-fn visited_name(buffer: &mut [u8], mcc: u64) -> usize
+pub fn visited_name(buffer: &mut [u8], mcc: u64) -> usize
     requires { name_room ≤ length buffer.old }
     ensures { Named (visited_name mcc) (length buffer.old) buffer.new result }
 {

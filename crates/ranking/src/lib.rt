@@ -1,4 +1,6 @@
 // Networks that a configuration bars, prefers and ranks, in its two lists.
+#![tactic(auto)]
+
 ghost use Rattle.std.specs.Prelude.{map, ◌≡◌, ◌≤◌, length, take};
 ghost use Rattle.network.specs.Plmn.{among, plmn_option};
 ghost use Rattle.config.specs.Settings.{listed_in, Counted, settings_in};

@@ -1,4 +1,6 @@
 // The record of a line: what it holds and where its parts stand.
+#![tactic(auto)]
+
 ghost use Rattle.record.specs.Laws.{Laws};
 
 use address::{HOLDS, Hold};
@@ -30,7 +32,7 @@ pub const LINES: u64 = 4;
 pub const PAIRS: u64 = TENANTS * LINES;
 
 // A line: holds and children are those below their counts.
-#[derive(Drop)]
+#[derive(Clone, Copy)]
 pub struct Record {
     pub time: u64,
     pub phase: Phase,

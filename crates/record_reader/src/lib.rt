@@ -1,4 +1,6 @@
 // A record read where it lies: as much of its line as a call looks at.
+#![tactic(auto)]
+
 ghost use Rattle.std.specs.Prelude.{◌≡◌, [], ◌*◌, ◌≤◌, length, take};
 ghost use Rattle.octets.specs.Digits.{field};
 ghost use Rattle.address.specs.Address.{held_addresses, most_holds, stands};

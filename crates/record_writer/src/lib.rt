@@ -1,4 +1,6 @@
 // A record changed where it lies: opened, or its line moved on, with what a call changes of its lists.
+#![tactic(auto)]
+
 ghost use Rattle.std.specs.Prelude.{true, ◌≡◌, [], ◌∷◌, ◌++◌, ◌≤◌, ◌<◌, length, take};
 ghost use Rattle.std.proofs.Math.Option.{some};
 ghost use Rattle.octets.specs.Digits.{be, field};

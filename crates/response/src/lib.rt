@@ -1,4 +1,6 @@
 // The writer of NAS responses.
+#![tactic(auto)]
+
 ghost use Rattle.std.specs.Prelude.{◌≡◌, ◌+◌, ◌≤◌, length};
 ghost use Rattle.octets.specs.Part.{Wrote, padded, zeros};
 ghost use Rattle.response.specs.Laws.{Laws};

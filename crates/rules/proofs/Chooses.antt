@@ -15,7 +15,6 @@ use Rattle.address.specs.declared.Address.{Address}
 use Rattle.config.specs.Settings.{Settings, config_of}
 use Rattle.gateway.specs.Gateway.{choose}
 use Rattle.gateway.specs.declared.Found.{Found}
-use Rattle.gateway.specs.declared.Found.TheVariants as Found
 use Rattle.gateway.proofs.Choices as Choices
 use Rattle.lists.specs.Lists.{addresses_in, networks_in}
 use Rattle.phase.specs.declared.Phase.TheVariants.{Chosen}

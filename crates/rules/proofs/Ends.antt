@@ -30,7 +30,6 @@ use Rattle.record.specs.Sound.{chosen_free}
 use Rattle.timer.proofs.Lengths.{seconds_fit}
 use Rattle.timer.specs.Timer.{timer_of}
 use Rattle.timer.specs.declared.Timer.{Timer}
-use Rattle.timer.specs.declared.Timer.TheVariants as Timer
 use Rattle.rules.specs.Life.{congested, chosen_hold, timer_hold}
 use Rattle.rules.proofs.Moves.{children_stay, rests, room_left}
 use Rattle.rules.proofs.Phases.{chosen_storable}

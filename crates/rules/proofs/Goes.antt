@@ -11,14 +11,12 @@ use Rattle.eap.specs.declared.Packet.{Packet}
 use Rattle.eap.specs.declared.Packet.TheVariants.{Start, NasRequest, Success, NasResponse, Stop, Other}
 use Rattle.gateway.specs.Gateway.{choose}
 use Rattle.gateway.specs.declared.Found.{Found}
-use Rattle.gateway.specs.declared.Found.TheVariants as Found
 use Rattle.network.specs.declared.Plmn.{Plmn}
 use Rattle.place.specs.declared.Facts.{Facts}
 use Rattle.record.specs.Changes.{in_phase, with_holds}
 use Rattle.record.specs.Line.{Line}
 use Rattle.selection.specs.Selection as Selection
 use Rattle.selection.specs.declared.Choice.{Choice}
-use Rattle.selection.specs.declared.Choice.TheVariants as Choice
 use Rattle.rules.specs.Life.{Outcome, address_answered, country_answered, decided, finished, gateway_found, goes, keeps, name_asked, packet_taken, replied, started}
 
 -- an outcome with another line

@@ -17,7 +17,6 @@ use Rattle.config.specs.Settings.{config_of}
 use Rattle.eap.specs.Packet.{read_packet}
 use Rattle.lists.specs.Lists.{addresses_in, networks_in}
 use Rattle.phase.specs.Stage.{Stage, is_in, stage_number}
-use Rattle.phase.specs.Stage as Stage
 use Rattle.phase.specs.declared.Phase.{Phase}
 use Rattle.phase.specs.declared.Phase.TheVariants.{Init, Auth, Live}
 use Rattle.record.specs.Changes.{current}

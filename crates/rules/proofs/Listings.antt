@@ -19,7 +19,6 @@ use Rattle.children.specs.Children.{child_fits}
 use Rattle.children.specs.declared.Child.{Child}
 use Rattle.phase.specs.Chosen.{chosen}
 use Rattle.phase.specs.Stage.{Stage, stage_of}
-use Rattle.phase.specs.Stage as Stage
 use Rattle.record.specs.Line.{Line}
 use Rattle.record.specs.Sound.{children_sound, in_range, line_sound}
 use Rattle.table.specs.Slots.{line_at, slots_of}

@@ -17,13 +17,11 @@ use Rattle.addresses.proofs.RoundTrip.{number_storable}
 use Rattle.config.specs.Lines.{entries, entries_from, last_entry}
 use Rattle.config.specs.Settings.{Settings, accepted, after_node, as_home, as_listed, as_node, config_of, first_node, from_home, is_end, name_place, node_or, plmn_in, rest, section, settle, with_home}
 use Rattle.config.specs.declared.Node.{Node}
-use Rattle.config.specs.declared.Node.TheVariants as Node
 use Rattle.config.specs.declared.Kind.TheVariants as Kind
 use Rattle.entry.specs.Entry.{bar_entry, entry_of, four, home_entry, line_entry, name_entry, node_entry, plmn_entry, three, address_entry, version_entry}
 use Rattle.entry.specs.Field.{is_name, plmn_of, priority_of}
 use Rattle.entry.specs.Pieces.{pieces}
 use Rattle.entry.specs.declared.Entry.{Entry}
-use Rattle.entry.specs.declared.Entry.TheVariants as Entry
 use Rattle.network.specs.declared.Plmn.{Plmn}
 use Rattle.text.specs.Text.{read_digits, text}
 use Rattle.text.proofs.Texts.{read_below}

@@ -8,7 +8,6 @@ use Rattle.rules.specs.View.{View}
 use Rattle.octets.proofs.Search.{either}
 use Rattle.rules.specs.Answer.{numbers_of, twelve}
 use Rattle.rules.specs.declared.Action.{Action}
-use Rattle.rules.specs.declared.Action.TheVariants as Action
 use Rattle.rules.specs.Call.{Call, opening, closing, listing, timed}
 use Rattle.rules.specs.Claims.{count_of}
 use Rattle.rules.specs.Run.{Result, answer_of, bare, run, step, step_of, timed_step}

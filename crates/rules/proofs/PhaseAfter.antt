@@ -15,18 +15,15 @@ use Rattle.address.specs.declared.Address.{Address}
 use Rattle.children.specs.Children.{has_spi}
 use Rattle.config.specs.Settings.{Settings, config_of}
 use Rattle.config.specs.declared.Node.{Node}
-use Rattle.config.specs.declared.Node.TheVariants as Node
 use Rattle.eap.specs.Packet.{read_packet}
 use Rattle.eap.specs.declared.Packet.{Packet}
 use Rattle.eap.specs.declared.Packet.TheVariants.{Start, NasRequest, Success, NasResponse, Stop, Other}
 use Rattle.gateway.specs.Gateway.{choose}
 use Rattle.gateway.specs.declared.Found.{Found}
-use Rattle.gateway.specs.declared.Found.TheVariants as Found
 use Rattle.lists.specs.Lists.{addresses_in, networks_in}
 use Rattle.network.specs.declared.Plmn.{Plmn}
 use Rattle.phase.specs.Chosen.{chosen}
 use Rattle.phase.specs.Stage.{Stage, is_in, stage_number, stage_of}
-use Rattle.phase.specs.Stage as Stage
 use Rattle.phase.specs.declared.Phase.{Phase}
 use Rattle.phase.specs.declared.Phase.TheVariants.{Idle, Country, Name, Chosen, Init, Auth, Eap, Sure, Live}
 use Rattle.phase.specs.declared.Turn.{Turn}
@@ -37,12 +34,10 @@ use Rattle.record.specs.Changes.{current, in_phase, with_children}
 use Rattle.record.specs.Line.{Line}
 use Rattle.selection.specs.Selection as Selection
 use Rattle.selection.specs.declared.Choice.{Choice}
-use Rattle.selection.specs.declared.Choice.TheVariants as Choice
 use Rattle.rules.specs.After.{Chooses, chooses, finds_none, Decides, asks_text, asks_built, goes_through, stops, Underway, in_auth, in_eap_lem, in_sure, Transition, start_asks, start_decides, country_decides, address_answered_lem, begun, init_answered, eap_started, eap_asked, first_replied, later_replied, eap_succeeded, final_good, final_bad, error_notified, given_up, child_added, child_taken, ike_deleted, PhaseAfter, ends_eap}
 use Rattle.rules.specs.After as After
 use Rattle.rules.specs.Answer.{Answer, numbers_of, twelve}
 use Rattle.rules.specs.declared.Action.{Action}
-use Rattle.rules.specs.declared.Action.TheVariants as Action
 use Rattle.rules.specs.Call.{Event, start, country, address, begin, init, eap, reply, final, error, congestion, give_up, child_made, child_deleted, ike_delete, timed, facts_of, last_time}
 use Rattle.rules.specs.declared.StartNumbers.{StartNumbers}
 use Rattle.rules.specs.Claims.{Timed, line_in}

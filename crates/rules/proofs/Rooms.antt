@@ -21,7 +21,6 @@ use Rattle.eap.specs.declared.Packet.{Packet}
 use Rattle.eap.specs.declared.Packet.TheVariants.{Start, NasRequest, Success, NasResponse, Stop, Other}
 use Rattle.gateway.specs.Gateway.{choose}
 use Rattle.gateway.specs.declared.Found.{Found}
-use Rattle.gateway.specs.declared.Found.TheVariants as Found
 use Rattle.lists.specs.Lists.{addresses_in, networks_in}
 use Rattle.network.proofs.Names.{operator_length, visited_length}
 use Rattle.network.specs.declared.Plmn.{Plmn}
@@ -31,7 +30,6 @@ use Rattle.record.specs.Line.{Line}
 use Rattle.response.proofs.Writing.{in_range_lem, length_response}
 use Rattle.selection.specs.Selection as Selection
 use Rattle.selection.specs.declared.Choice.{Choice}
-use Rattle.selection.specs.declared.Choice.TheVariants as Choice
 use Rattle.table.specs.Table.{is_table}
 use Rattle.rules.specs.Answer.{event_room, room_of}
 use Rattle.rules.specs.Call.{Event, start, country, address, begin, init, eap, reply, final, error, congestion, give_up, child_made, child_deleted, ike_delete, Call, opening, closing, listing, timed, facts_of, tenant_of, last_time, listing_room}

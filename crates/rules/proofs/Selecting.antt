@@ -19,7 +19,6 @@ use Rattle.addresses.specs.Laws.{address_storable}
 use Rattle.addresses.proofs.RoundTrip as Addresses
 use Rattle.config.specs.Settings.{Settings}
 use Rattle.config.specs.declared.Node.{Node}
-use Rattle.config.specs.declared.Node.TheVariants as Node
 use Rattle.gateway.specs.Gateway.{choose, found_at}
 use Rattle.lists.specs.Lists.{address_at, addresses_in}
 use Rattle.network.specs.declared.MaybePlmn.TheVariants.{Is, None}
@@ -40,7 +39,6 @@ use Rattle.record.specs.Line.{Line}
 use Rattle.record.specs.Sound.{chosen_free}
 use Rattle.selection.specs.Selection as Selection
 use Rattle.selection.specs.declared.Choice.{Choice}
-use Rattle.selection.specs.declared.Choice.TheVariants as Choice
 use Rattle.rules.specs.Call.{facts_of, start_numbers_fit, place_of, registered_of}
 use Rattle.rules.specs.declared.StartNumbers.{StartNumbers}
 use Rattle.rules.specs.Life.{address_answered, country_answered, name_asked, decided, gateway_found, goes, started}

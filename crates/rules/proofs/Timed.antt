@@ -16,7 +16,6 @@ use Rattle.address.specs.declared.Address.{Address}
 use Rattle.config.specs.Settings.{Settings, config_of}
 use Rattle.gateway.specs.Gateway.{choose, found_at}
 use Rattle.gateway.specs.declared.Found.{Found}
-use Rattle.gateway.specs.declared.Found.TheVariants as Found
 use Rattle.lists.specs.Lists.{addresses_in, networks_in}
 use Rattle.place.specs.declared.Facts.{Facts}
 use Rattle.record.specs.Changes.{current}
@@ -24,7 +23,6 @@ use Rattle.record.specs.Line.{Line}
 use Rattle.selection.specs.Selection as Selection
 use Rattle.selection.specs.Stops.{Ends, Exactly, addresses, country_reached, start_reached, stop_found, stop_of}
 use Rattle.selection.specs.declared.Choice.{Choice}
-use Rattle.selection.specs.declared.Choice.TheVariants as Choice
 use Rattle.selection.proofs.Ends.{stops_exactly}
 use Rattle.table.specs.Slots.{line_at, pair_in, slot_line, slots_of}
 use Rattle.table.specs.Table.{is_table}

@@ -25,7 +25,6 @@ use Rattle.response.specs.Response.{response}
 use Rattle.timer.specs.Timer.{unit_seconds}
 use Rattle.rules.specs.Answer.{numbers_of}
 use Rattle.rules.specs.declared.Action.{Action}
-use Rattle.rules.specs.declared.Action.TheVariants as Action
 use Rattle.rules.specs.Call.{Event, start, country, address, begin, init, eap, reply, final, error, congestion, give_up, child_made, child_deleted, ike_delete, Call, opening, closing, listing, timed, facts_of, pair_of}
 use Rattle.rules.specs.declared.StartNumbers.{StartNumbers}
 use Rattle.rules.specs.Phases.{last_reply, turn_in}

@@ -4,7 +4,6 @@ use Rattle.octets.specs.Part.{part, zeros}
 use Rattle.address.specs.Address.{high, low, version_of}
 use Rattle.rules.specs.Call.{Event, start, country, address, begin, init, eap, reply, final, error, congestion, give_up, child_made, child_deleted, ike_delete, Call, opening, closing, listing, timed}
 use Rattle.rules.specs.declared.Action.{Action}
-use Rattle.rules.specs.declared.Action.TheVariants as Action
 
 -- the refusal number or 0, the twelve numbers, the octets of the returned part, the answer buffer whole
 pub record Answer : Type 0 where

@@ -30,7 +30,6 @@ use Rattle.rules.specs.After.{After, LiveBy, PhaseAfter, SureBy, Transition, own
 use Rattle.rules.specs.Answer.{Answer, number_count, room_of}
 use Rattle.rules.specs.Call.{Event, start, country, address, reply, child_made, child_deleted, Call, opening, closing, listing, timed, facts_of, pair_of, last_time, listing_room}
 use Rattle.rules.specs.declared.Action.{Action}
-use Rattle.rules.specs.declared.Action.TheVariants as Action
 use Rattle.rules.specs.declared.StartNumbers.{StartNumbers}
 use Rattle.rules.specs.Histories.{answers_to, is_octets, remaining, table_after}
 use Rattle.rules.specs.Life.{Outcome, decided, goes, outcome}

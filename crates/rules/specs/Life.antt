@@ -14,7 +14,6 @@ use Rattle.eap.specs.declared.Packet.{Packet}
 use Rattle.eap.specs.declared.Packet.TheVariants.{Start, NasRequest, Success, NasResponse, Stop, Other}
 use Rattle.gateway.specs.Gateway.{choose}
 use Rattle.gateway.specs.declared.Found.{Found}
-use Rattle.gateway.specs.declared.Found.TheVariants as Found
 use Rattle.network.specs.declared.Plmn.{Plmn}
 use Rattle.lists.specs.Lists.{addresses_in, networks_in}
 use Rattle.phase.specs.Chosen.{chosen}
@@ -30,12 +29,9 @@ use Rattle.record.specs.Line.{Line}
 use Rattle.response.specs.Response.{response}
 use Rattle.selection.specs.Selection as Selection
 use Rattle.selection.specs.declared.Choice.{Choice}
-use Rattle.selection.specs.declared.Choice.TheVariants as Choice
 use Rattle.timer.specs.Timer.{timer_of}
 use Rattle.timer.specs.declared.Timer.{Timer}
-use Rattle.timer.specs.declared.Timer.TheVariants as Timer
 use Rattle.rules.specs.declared.Action.{Action}
-use Rattle.rules.specs.declared.Action.TheVariants as Action
 use Rattle.rules.specs.Call.{Event, start, country, address, begin, init, eap, reply, final, error, congestion, give_up, child_made, child_deleted, ike_delete, facts_of}
 use Rattle.rules.specs.Phases.{facts_in, owed, turn_in}
 

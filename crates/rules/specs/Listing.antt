@@ -9,7 +9,6 @@ use Rattle.children.specs.declared.Child.{Child}
 use Rattle.entry.specs.Pieces.{newline_code, tab_code}
 use Rattle.phase.specs.Chosen.{chosen}
 use Rattle.phase.specs.Stage.{Stage, stage_of}
-use Rattle.phase.specs.Stage as Stage
 use Rattle.record.specs.Line.{Line}
 use Rattle.text.specs.Text.{text, decimal, digit_text}
 

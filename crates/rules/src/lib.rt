@@ -1,4 +1,6 @@
 // The rules of document 01, what they ask of the daemon, and what is claimed of them.
+#![tactic(auto)]
+
 ghost use Rattle.std.specs.Prelude.{◌≡◌, ◌≤◌};
 ghost use Rattle.record.specs.Sound.{last_line, last_tenant};
 ghost use Rattle.rules.specs.Call.{pair_of};
@@ -8,7 +10,7 @@ use address::Address;
 use record::LINES;
 
 // The numbers of a start: the place and the visited MCC, whether registered and to which PLMN, the local IP version.
-#[derive(Drop)]
+#[derive(Clone, Copy)]
 pub struct StartNumbers {
     pub place: u64,
     pub mcc: u64,
@@ -19,7 +21,7 @@ pub struct StartNumbers {
 }
 
 // What the daemon has to do.
-#[derive(Drop)]
+#[derive(Clone, Copy)]
 pub enum Action {
     Nothing,
     // Selection stopped: where, and how many addresses were passed over.

@@ -11,7 +11,7 @@ use parser::parse::{ill_formed, parse};
 use phase::MaybeFacts;
 
 // A text that was read: its refusal number, 8, 9 or 0, and where that is 0 what the text says beside the two lists.
-#[derive(Drop)]
+#[derive(Clone, Copy)]
 pub(crate) struct Lent {
     pub refusal: u64,
     pub config: Config,

@@ -1,4 +1,6 @@
 // What selection comes to on a line, up to the choice of a name or an address.
+#![tactic(auto)]
+
 mod given;
 mod lent;
 
@@ -23,7 +25,7 @@ use selection::Choice;
 use step::is_late;
 
 // What selection came to: the refusal number from 8 to 13 or 0, and where that is 0 the place facts of the attempt and the choice.
-#[derive(Drop)]
+#[derive(Clone, Copy)]
 pub struct Selected {
     pub refusal: u64,
     pub facts: Facts,

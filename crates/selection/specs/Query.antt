@@ -1,7 +1,8 @@
 -- The name to ask is a part of the configuration text or of the name buffer, whichever holds it.
-use Rattle.std.specs.Prelude.{ℕ, ◌+◌, ◌≤◌, List, [], length}
+use Rattle.std.specs.Prelude.{ℕ, ◌+◌, ◌≤◌, List, [], ◌≡◌, length}
 use Rattle.octets.specs.Part.{part}
 use Rattle.network.specs.Name.{operator_name, visited_name, Named}
+use Rattle.network.specs.declared.Plmn.{Plmn}
 use Rattle.selection.specs.declared.Choice.{Choice}
 use Rattle.selection.specs.declared.Choice.TheVariants.{Stop, Country, Text, Network, Address}
 
@@ -33,3 +34,8 @@ TextWithin text (Address a) = Unit {0}
 pub record Lies (text name : List ℕ) (n : ℕ) (choice : Choice) : Type 0 where
   pub in_text : TextWithin text choice
   pub in_name : Named (built choice) (length name) name n
+
+-- a name that is built is the one that is asked
+pub record BuiltAsked : Type 0 where
+  pub country : (text : List ℕ) (mcc : ℕ) → built (Country mcc) ≡ asked text (Country mcc)
+  pub network : (text : List ℕ) (p : Plmn) → built (Network p) ≡ asked text (Network p)

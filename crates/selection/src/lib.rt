@@ -1,12 +1,15 @@
 // Choosing a network and a gateway, up to the name that is asked, S1 to S4: the choice, and what is claimed of it.
+#![tactic(auto)]
+
 ghost use Rattle.selection.specs.Networks.{NetworkExactly};
+ghost use Rattle.selection.specs.Query.{BuiltAsked};
 ghost use Rattle.selection.specs.Stops.{StopsExactly};
 
 use address::Address;
 use network::Plmn;
 
 // What is done next.
-#[derive(Drop)]
+#[derive(Clone, Copy)]
 pub enum Choice {
     // Selection stops, and the number says where.
     Stop(u64),
@@ -28,4 +31,9 @@ pub fn stops()
 // Does nothing; its promise is the claim `network_exactly`.
 pub fn networks()
     ensures { NetworkExactly }
+{}
+
+// Does nothing; its promise is that a name that is built is the one that is asked.
+pub fn names()
+    ensures { BuiltAsked }
 {}

@@ -1,4 +1,6 @@
 // The EAP-5G session of a line: what comes from the network, and the replies.
+#![tactic(auto)]
+
 ghost use Rattle.std.specs.Prelude.{[], ◌≡◌, ◌≤◌, length};
 ghost use Rattle.eap.specs.declared.Packet.TheVariants.{Start, NasRequest, Success};
 ghost use Rattle.record.specs.Line.{line_of, InArrays};

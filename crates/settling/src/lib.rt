@@ -1,4 +1,6 @@
 // What a timed call leaves: the line that its step comes to is stored where its record lies, and the twelve numbers are answered.
+#![tactic(auto)]
+
 pub mod answer;
 
 ghost use Rattle.std.specs.Prelude.{◌≡◌, [], ◌∷◌, ◌++◌, ◌≤◌, ◌<◌, get_or, length, take};
@@ -28,7 +30,7 @@ use standing::standing_of;
 use step::Stepped;
 
 // What is left of a step's answer where only the phase changes: the refusal number, the phase afterwards, and what the daemon has to do.
-#[derive(Drop)]
+#[derive(Clone, Copy)]
 pub struct Moved {
     pub refusal: u64,
     pub phase: Phase,
@@ -73,7 +75,7 @@ pub fn settle(
 }
 
 // What is left of a step's answer on a line that keeps its address or ends: the refusal number, where it stands, and what the daemon has to do.
-#[derive(Drop)]
+#[derive(Clone, Copy)]
 pub struct Went {
     pub refusal: u64,
     pub standing: Standing,

@@ -1,4 +1,6 @@
 // The calls from start to the chosen address.
+#![tactic(auto)]
+
 ghost use Rattle.std.specs.Prelude.{[], ◌≡◌, ◌≤◌, length};
 ghost use Rattle.attempt.specs.Attempt.{HoldTold};
 ghost use Rattle.frame.specs.Entering.{Stands};

@@ -1,4 +1,6 @@
 // When a record and a table are sound: their octets are tested where they lie.
+#![tactic(auto)]
+
 ghost use Rattle.std.specs.Prelude.{◌≡◌, ℕ, ◌+◌, ◌*◌, ◌≤◌, length, take};
 ghost use Rattle.octets.specs.Digits.{field};
 ghost use Rattle.address.specs.Address.{held_addresses, most_holds};
@@ -84,7 +86,7 @@ fn are_apart(b: &[u8], m: usize) -> bool
 }
 
 // Whether the octets of a used record are sound.
-fn is_record(b: &[u8]) -> bool
+pub fn is_record(b: &[u8]) -> bool
     requires { record_length ≤ length b.now }
     ensures { result ≡ is_record b.now }
 {

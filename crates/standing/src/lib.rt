@@ -1,4 +1,6 @@
 // Where a phase stands, read from its octets and stored without its place facts and its address.
+#![tactic(auto)]
+
 ghost use Rattle.std.specs.Prelude.{◌≡◌, ◌+◌, ◌≤◌, length};
 ghost use Rattle.phase.specs.Phase.{having_from, phase_from, phase_length};
 ghost use Rattle.phase.specs.Standing.{bare, standing, turned, Stood};

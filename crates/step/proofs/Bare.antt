@@ -12,7 +12,6 @@ use Rattle.address.specs.Address.{held_addresses}
 use Rattle.address.specs.declared.Address.{Address}
 use Rattle.address.specs.declared.Hold.{Hold}
 use Rattle.eap.specs.declared.Packet.{Packet}
-use Rattle.eap.specs.declared.Packet.TheVariants as Packet
 use Rattle.gateway.specs.Gateway.{choose}
 use Rattle.phase.specs.Chosen.{chosen}
 use Rattle.phase.specs.Stage.{is_in, stage_number, stage_of}
@@ -25,13 +24,11 @@ use Rattle.place.specs.declared.Facts.{Facts}
 use Rattle.record.specs.Changes.{in_phase, with_holds}
 use Rattle.record.specs.Line.{Line}
 use Rattle.timer.specs.declared.Timer.{Timer}
-use Rattle.timer.specs.declared.Timer.TheVariants as Timer
 use Rattle.rules.specs.Life.{Outcome, address_answered, becomes, chosen_hold, congested, ended, finished, goes, onward, packet_taken, replied, timer_hold}
 use Rattle.rules.specs.Life as Life
 use Rattle.rules.specs.Phases.{facts_in, turn_in, underway}
 use Rattle.rules.specs.Refusals.{is_due}
 use Rattle.rules.specs.declared.Action.{Action}
-use Rattle.rules.specs.declared.Action.TheVariants as Action
 use Rattle.rules.proofs.Goes.{found_goes, onto, phased}
 
 -- an address and place facts, where they are there, made blank

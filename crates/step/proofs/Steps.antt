@@ -15,7 +15,6 @@ use Rattle.rules.specs.Call.{Event, last_time}
 use Rattle.rules.specs.Life.{Outcome, becomes, outcome}
 use Rattle.rules.specs.Refusals.{has_no_room, is_allowed, is_held_full, is_malformed, is_out_of_range, is_spi_taken, refusals_of}
 use Rattle.rules.specs.declared.Action.{Action}
-use Rattle.rules.specs.declared.Action.TheVariants as Action
 use Rattle.step.specs.Step.{Gives, effect, effect_in, outcome_by}
 use Rattle.step.specs.declared.Stepped.{Stepped}
 

@@ -9,7 +9,6 @@ use Rattle.rules.specs.Call.{Event, last_time}
 use Rattle.rules.specs.Life.{Outcome, becomes, outcome}
 use Rattle.rules.specs.Refusals.{refusals_of}
 use Rattle.rules.specs.declared.Action.{Action}
-use Rattle.rules.specs.declared.Action.TheVariants as Action
 use Rattle.step.specs.declared.Stepped.{Stepped}
 
 -- the refusal number from 8 to 13 or 0, the line afterwards, the action, the octets of the part, the answer buffer whole

@@ -1,4 +1,6 @@
 // What every step on a line shares: the line as a call finds it, and how a step answers. The refusals from 1 to 7 are tested before a step.
+#![tactic(auto)]
+
 ghost use Rattle.std.specs.Prelude.{◌≡◌, ltb};
 ghost use Rattle.record.specs.Changes.{current, in_phase};
 ghost use Rattle.record.specs.Line.{line_of, InArrays};
@@ -16,7 +18,7 @@ use rules::Action;
 const LAST_TIME: u64 = 4294967295;
 
 // What a step answers: the refusal number from 8 to 13 or 0, the line afterwards, and what the daemon has to do.
-#[derive(Drop)]
+#[derive(Clone, Copy)]
 pub struct Stepped {
     pub refusal: u64,
     pub line: Record,

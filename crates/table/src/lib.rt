@@ -1,4 +1,6 @@
 // The table of records.
+#![tactic(auto)]
+
 ghost use Rattle.table.specs.Laws.{Laws};
 
 use record::RECORD;

@@ -1,11 +1,13 @@
 // Numbers as texts of lower-case digits.
+#![tactic(auto)]
+
 ghost use Rattle.std.specs.Prelude.{◌≡◌, ◌+◌, ◌≤◌, ◌<◌, length};
 ghost use Rattle.text.specs.Text.{character, digit, digit_text, decimal, decimal_width, read_digits, number_read};
 ghost use Rattle.octets.specs.Part.{part, Wrote};
 ghost use Rattle.text.specs.Laws.{Laws};
 
 // What reading digits finds.
-#[derive(Drop)]
+#[derive(Clone, Copy)]
 pub enum Reading {
     Number(u64),
     NotDigits,

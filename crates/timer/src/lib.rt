@@ -1,4 +1,6 @@
 // The back-off timer octet: the top three bits give the unit, the low five the count.
+#![tactic(auto)]
+
 ghost use Rattle.std.specs.Prelude.{◌≡◌, ◌<◌};
 ghost use Rattle.timer.specs.Timer.{unit_seconds, timer_of};
 
@@ -6,7 +8,7 @@ ghost use Rattle.timer.specs.Timer.{unit_seconds, timer_of};
 const UNITS: [u64; 7] = [600, 3600, 36000, 2, 30, 60, 1152000];
 
 // What a timer octet says.
-#[derive(Drop)]
+#[derive(Clone, Copy)]
 pub enum Timer {
     // No hold is set.
     None,

@@ -1,7 +1,6 @@
 -- The events that take children of a live line away.
 use Rattle.rules.specs.Call.{Event, child_deleted, ike_delete}
 use Rattle.tunnel.specs.declared.TunnelEvent.{TunnelEvent}
-use Rattle.tunnel.specs.declared.TunnelEvent.TheVariants as TunnelEvent
 
 -- an event of the code as one of the rules
 abbrev pub tunnel_event_of : TunnelEvent → Event

@@ -1,4 +1,6 @@
 // The child associations of a live line: made, deleted, and gone with the IKE association.
+#![tactic(auto)]
+
 ghost use Rattle.std.specs.Prelude.{List, [], ◌≡◌, ◌≤◌, ◌<◌, length, take};
 ghost use Rattle.children.specs.Children.{has_spi, most_children};
 ghost use Rattle.children.specs.declared.Child.{Child};
@@ -145,7 +147,7 @@ pub fn ike_delete(line: Record, time: u64) -> Stepped
 }
 
 // An event that takes children of a live line away.
-#[derive(Drop)]
+#[derive(Clone, Copy)]
 pub enum TunnelEvent {
     // SPI.
     ChildDeleted(u64),

@@ -1,4 +1,6 @@
 // Start, country answer and address answer as steps on a whole line.
+#![tactic(auto)]
+
 ghost use Rattle.std.specs.Prelude.{[], ◌≡◌, ℕ, ◌*◌, ◌≤◌, ltb, length, take};
 ghost use Rattle.address.specs.Address.{held_addresses, most_holds};
 ghost use Rattle.addresses.specs.Addresses.{address_length};

@@ -1,0 +1,6 @@
+-- `holds::laws` meets its contract: each law is proved below proofs/.
+use Rattle.holds.proofs.RoundTrip.{storable, octet_count, read_back, write_back}
+use Rattle.holds.proofs.laws.Goals as goal
+
+pub returns : goal.returns
+returns c = record { octet_count = octet_count; read_back = read_back; write_back = write_back; storable = storable }

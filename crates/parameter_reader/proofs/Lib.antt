@@ -1,2 +1,0 @@
--- The laws of a reader that keeps hold of a block.
-pub mod Held

@@ -1,0 +1,23 @@
+-- `records::is_held_at` meets its contract: a sound record has counts within its room.
+use Prim.Native.Nat.{ℕ}
+use mathlib.Core.List.{List}
+use mathlib.Core.Path.{ap, ◌∙◌}
+use borrow.Author.Rules.{rules}
+use Rattle.address.specs.Address.{held_addresses, stands}
+use Rattle.record.specs.Changes.{in_force}
+use Rattle.record.specs.Octets.{line_from}
+use Rattle.table.specs.Table.{slot}
+use Rattle.table.proofs.Slots.{slot_reads}
+use Rattle.records.proofs.is_held_at.Goals as goal
+
+pub is_held_in-requires : goal.is_held_in-requires
+unfolding slot
+is_held_in-requires c =
+    let reads = slot_reads _ _ c.part.ensures.0 c.part.ensures.1 c.requires.1 in
+    (reads.0, reads.1)
+
+pub returns : goal.returns
+unfolding slot
+returns c =
+    let a = c.args in
+    c.is_held_in.ensures ∙ ap (λ (s : List ℕ). stands a.a (held_addresses (in_force a.time (line_from s)).holds)) c.part.ensures.0

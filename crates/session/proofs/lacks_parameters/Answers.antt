@@ -1,0 +1,20 @@
+-- `session::lacks_parameters` meets its contract: only a first turn asks for AN-parameters.
+use borrow.Author.Rules.{rules}
+use Rattle.phase.specs.Stage as Stage
+use Rattle.phase.proofs.Stages.{other_stage, tags}
+use Rattle.rules.specs.Phases.{is_first, turn_in}
+use Rattle.rules.specs.Refusals.{lacks_parameters}
+use Rattle.session.proofs.Turns.{no_turn, not_first}
+use Rattle.session.proofs.lacks_parameters.Goals as goal
+
+pub returns-in_default : goal.returns-in_default
+unfolding lacks_parameters is_first
+returns-in_default c = rw (no_turn _ (other_stage Stage.eap _ tags c.in_default.keys2))
+
+pub returns-in_default-turn : goal.returns-in_default-turn
+unfolding lacks_parameters turn_in
+returns-in_default-turn c = rw (c.phase-1.given.1, not_first _ c.in_default-turn.keys2)
+
+pub returns : goal.returns
+unfolding lacks_parameters turn_in is_first
+returns c = rw (c.phase-1.given.1, c.enum_told-1.given.1)
