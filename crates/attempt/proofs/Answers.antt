@@ -14,7 +14,6 @@ use Rattle.rules.specs.Call.{Event, last_time}
 use Rattle.rules.specs.Life.{Outcome, outcome}
 use Rattle.rules.specs.Refusals.{refusals_of}
 use Rattle.rules.specs.declared.Action.{Action}
-use Rattle.rules.specs.declared.Action.TheVariants as Action
 use Rattle.step.specs.Step.{Gives, effect_in}
 use Rattle.step.specs.declared.Stepped.{Stepped}
 use Rattle.step.proofs.Steps.{taken, turned_away}

@@ -24,7 +24,6 @@ use Rattle.rules.specs.Life.{Outcome, goes, outcome}
 use Rattle.rules.specs.Phases.{facts_in}
 use Rattle.rules.specs.Refusals.{has_no_room, is_allowed, is_held_full, is_malformed, is_out_of_range, is_spi_taken, refusals_of}
 use Rattle.rules.specs.declared.Action.{Action}
-use Rattle.rules.specs.declared.Action.TheVariants as Action
 use Rattle.rules.proofs.Goes.{addressed_goes}
 use Rattle.step.specs.Step.{Effect, Gives, effect, effect_in, outcome_by}
 use Rattle.step.specs.declared.Stepped.{Stepped}

@@ -10,7 +10,6 @@ use Rattle.address.specs.Address.{held_addresses}
 use Rattle.address.specs.declared.Address as Address
 use Rattle.gateway.specs.Gateway.{choose}
 use Rattle.gateway.specs.declared.Found.{Found}
-use Rattle.gateway.specs.declared.Found.TheVariants as Found
 use Rattle.network.specs.Name.{Named}
 use Rattle.network.specs.declared.Plmn.{Plmn}
 use Rattle.phase.specs.declared.Phase.TheVariants as Phase

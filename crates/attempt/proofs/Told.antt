@@ -9,7 +9,6 @@ use Rattle.address.specs.declared.Address.{Address}
 use Rattle.address.specs.declared.Hold.{Hold}
 use Rattle.network.specs.declared.Plmn.{Plmn}
 use Rattle.selection.specs.declared.Choice.{Choice}
-use Rattle.selection.specs.declared.Choice.TheVariants as Choice
 use Rattle.attempt.specs.Attempt.{HoldTold}
 
 module _ (c : Choice) (t : Bool) (hs : List Hold) where

@@ -16,7 +16,6 @@ use Rattle.rules.specs.Answer.{numbers_of, part_named, PartWithin}
 use Rattle.rules.specs.Call.{Event}
 use Rattle.rules.specs.Life.{Outcome, gateway_found, goes}
 use Rattle.selection.specs.declared.Choice.{Choice}
-use Rattle.selection.specs.declared.Choice.TheVariants as Choice
 use Rattle.attempt.specs.declared.Move.{Move}
 
 -- what S5 found is the phase and the action, on every line

@@ -31,9 +31,7 @@ use Rattle.tunnel.specs.Made.{made_on}
 use Rattle.ike.specs.Events.{event_of}
 use Rattle.tunnel.specs.Events.{tunnel_event_of}
 use Rattle.ike.specs.declared.event.IkeEvent.{IkeEvent}
-use Rattle.ike.specs.declared.event.IkeEvent.TheVariants as IkeEvent
 use Rattle.tunnel.specs.declared.TunnelEvent.{TunnelEvent}
-use Rattle.tunnel.specs.declared.TunnelEvent.TheVariants as TunnelEvent
 use Rattle.frame.specs.Entering.{Passes}
 use Rattle.settling.specs.Settling.{GoneTo}
 use Rattle.frame.specs.declared.Entered.{Entered}

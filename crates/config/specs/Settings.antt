@@ -7,15 +7,12 @@ use Rattle.network.specs.declared.Plmn.{Plmn}
 use Rattle.entry.specs.Entry.{before_name}
 use Rattle.entry.specs.declared.Entry.{Entry}
 use Rattle.entry.specs.declared.Entry.TheVariants.{Home, Name, Preference, Bar, Bad}
-use Rattle.entry.specs.declared.Entry.TheVariants as Entry
 use Rattle.entry.specs.declared.field.Preferred.{Preferred}
 use Rattle.config.specs.Lines.{entries_from, line_end}
 use Rattle.config.specs.declared.Config.{Config}
 use Rattle.config.specs.declared.Node.{Node}
 use Rattle.config.specs.declared.Parsed.{Parsed}
-use Rattle.config.specs.declared.Node.TheVariants as Node
 use Rattle.config.specs.declared.Kind.{Kind}
-use Rattle.config.specs.declared.Kind.TheVariants as Kind
 
 -- the PLMN of a `plmn` entry
 unfoldable pub plmn_in : Preferred → Plmn

@@ -1,7 +1,2 @@
--- What the walks of the steps on a lent record share.
-pub mod Locals
-pub mod Owner
-pub mod Passing
-pub mod Signature
+-- What the callers of steps on a lent record share.
 pub mod Unheld
-pub mod Walk

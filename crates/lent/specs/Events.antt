@@ -3,7 +3,6 @@ use Rattle.record.specs.declared.Record.{Record}
 use Rattle.rules.specs.Call as Call
 use Rattle.step.specs.declared.Stepped.{Stepped}
 use Rattle.lent.specs.declared.Event.{Event}
-use Rattle.lent.specs.declared.Event.TheVariants as Event
 use Rattle.lent.specs.declared.Told.{Told}
 
 -- an event of the code as one of the rules

@@ -12,7 +12,6 @@ use Rattle.addresses.specs.Addresses.{address_from}
 use Rattle.phase.specs.Chosen.{chosen}
 use Rattle.phase.specs.Phase.{is_phase, phase_from}
 use Rattle.phase.specs.Stage.{Stage, stage_number, stage_of}
-use Rattle.phase.specs.Stage as Stage
 use Rattle.phase.proofs.Stood.{chosen_at, none_at, stage_at}
 use Rattle.text.specs.Text.{text}
 use Rattle.rules.specs.Listing.{address_text, word}

@@ -127,7 +127,7 @@ module _ {l l₁ l₂ : List ℕ} {n : ℕ} where
 -- no hold more
 pub none_added : {l : List ℕ} (h : Hold) (count : ℕ) → count ≡ 0 → Changes l l (λ x. with_holds x (x.holds ++ take count (h ∷ [])))
 unfolding with_holds
-none_added h count none pair x few_holds few_children is =
+none_added h count none pair x few_holds _ is =
     is ∙ ap (λ (hs : List Hold). record_octets pair (with_holds x hs)) (sym (append-nil x.holds) ∙ ap (λ (i : ℕ). x.holds ++ take i (h ∷ [])) (sym none))
 
 -- a child behind the others of a line that goes on to another phase

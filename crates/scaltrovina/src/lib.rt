@@ -1,8 +1,8 @@
 // The calls that C links, each with its promise, for every table, number, slice and buffer.
 #![tactic(auto)]
 
+mod choosing_calls;
 mod lines;
 mod packet;
-mod selecting;
 mod signalling;
 mod tunnels;

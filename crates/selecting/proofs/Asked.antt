@@ -8,7 +8,6 @@ use Rattle.network.specs.declared.Plmn.{Plmn}
 use Rattle.config.specs.Settings.{Settings, settings_in, NodeWithin, Within}
 use Rattle.config.specs.declared.Config.{Config}
 use Rattle.config.specs.declared.Node.{Node}
-use Rattle.config.specs.declared.Node.TheVariants as Node
 use Rattle.preference.specs.Preference.{ranked, unranked}
 use Rattle.place.specs.declared.Place.{Place}
 use Rattle.place.specs.declared.Place.TheVariants.{Unknown, Home, Abroad}

@@ -17,7 +17,6 @@ use Rattle.phase.specs.Awaited.{awaited_in}
 use Rattle.phase.specs.Stage as Stage
 use Rattle.phase.specs.Stage.{is_in}
 use Rattle.phase.specs.declared.Phase.{Phase}
-use Rattle.phase.specs.declared.Phase.TheVariants as Phase
 use Rattle.record.specs.Line.{Line}
 use Rattle.rules.specs.Call.{Event}
 use Rattle.rules.specs.Phases.{facts_in}

@@ -13,7 +13,6 @@ use Rattle.network.specs.declared.MaybePlmn.TheVariants.{Is, None}
 use Rattle.network.proofs.Plmns.{self_plmn, plmn_same}
 use Rattle.config.specs.Settings.{Settings}
 use Rattle.config.specs.declared.Node.{Node}
-use Rattle.config.specs.declared.Node.TheVariants as Node
 use Rattle.place.specs.declared.Facts.{Facts}
 use Rattle.place.specs.declared.Place.TheVariants.{Home, Abroad}
 use Rattle.preference.specs.Preference.{provisioned, barred, unbarred, preferred, ranked, unranked}

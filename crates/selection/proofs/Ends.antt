@@ -18,7 +18,6 @@ use Rattle.address.proofs.Numbers.{same_parts, same_self}
 use Rattle.entry.specs.declared.field.Preferred.{Preferred}
 use Rattle.config.specs.Settings.{plmn_in, Settings}
 use Rattle.config.specs.declared.Node.{Node}
-use Rattle.config.specs.declared.Node.TheVariants as Node
 use Rattle.preference.specs.Preference.{unbarred, offered, eligible, best, network_of, ranked, unranked}
 use Rattle.place.specs.declared.Place.{Place}
 use Rattle.place.specs.declared.Place.TheVariants.{Unknown, Home, Abroad}

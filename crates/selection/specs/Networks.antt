@@ -12,7 +12,6 @@ use Rattle.place.specs.declared.Place.TheVariants.{Home, Abroad}
 use Rattle.preference.specs.Preference.{provisioned, preferred, ranked, unranked}
 use Rattle.selection.specs.Selection.{start, country}
 use Rattle.selection.specs.declared.Choice.{Choice}
-use Rattle.selection.specs.declared.Choice.TheVariants as Choice
 use Rattle.selection.specs.declared.Choice.TheVariants.{Stop, Country, Text, Network}
 
 -- p is the registered PLMN, it is not the lent text's home PLMN, and it is not barred

@@ -5,7 +5,6 @@ use Rattle.network.specs.Plmn.{same_plmn, among, plmn_option}
 use Rattle.network.specs.declared.Plmn.{Plmn}
 use Rattle.config.specs.Settings.{Settings}
 use Rattle.config.specs.declared.Node.{Node}
-use Rattle.config.specs.declared.Node.TheVariants as Node
 use Rattle.preference.specs.Preference.{provisioned, preferred, unbarred, ranked, unranked}
 use Rattle.place.specs.declared.Place.{Place}
 use Rattle.place.specs.declared.Place.TheVariants.{Unknown, Home, Abroad}

@@ -9,7 +9,6 @@ use Rattle.address.specs.declared.Address.{Address}
 use Rattle.entry.specs.declared.field.Preferred.{Preferred}
 use Rattle.config.specs.Settings.{Settings}
 use Rattle.config.specs.declared.Node.{Node}
-use Rattle.config.specs.declared.Node.TheVariants as Node
 use Rattle.preference.specs.Preference.{unbarred, eligible}
 use Rattle.place.specs.declared.Place.{Place}
 use Rattle.place.specs.declared.Place.TheVariants.{Unknown, Home, Abroad}
@@ -19,7 +18,6 @@ use Rattle.gateway.specs.declared.Found.TheVariants.{Chosen, Nothing}
 use Rattle.selection.specs.Selection.{start, country}
 use Rattle.selection.specs.declared.Choice.{Choice}
 use Rattle.selection.specs.declared.Choice.TheVariants.{Stop, Country, Text, Network}
-use Rattle.selection.specs.declared.Choice.TheVariants as Choice
 use Rattle.place.specs.declared.Facts.{Facts}
 
 -- the step that a call reaches: a name is asked, or it may stop at one of four

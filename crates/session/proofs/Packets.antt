@@ -1,18 +1,15 @@
 -- What a packet comes to by the phase that was found, and what the answer to it has to show.
 use Prim.Native.Nat.{ℕ, suc}
 use mathlib.Core.Bool.{Bool, true, false, cond, not}
-use mathlib.Core.List.{List, [], ◌∷◌}
+use mathlib.Core.List.{List, []}
 use mathlib.Core.Path.{◌≡◌, refl, sym, ap, ◌∙◌, subst}
 use native.Mathlib.Omega.{arith}
 use lib.Dec.{ltb}
-use denote.Enum.Declared.{tag_of}
-use types.Run.{OneOf, miss}
 use Rattle.octets.specs.Part.{padded, part, zeros}
 use Rattle.octets.specs.Refusal.{refusal}
 use Rattle.eap.specs.Packet.{is_request, read_packet}
 use Rattle.eap.specs.declared.Packet.{Packet}
 use Rattle.eap.specs.declared.Packet.TheVariants.{Start, NasRequest, Success, NasResponse, Stop, Other}
-use Rattle.eap.specs.contracts.Packet.{the_type}
 use Rattle.eap.proofs.Reading.{request_within}
 use Rattle.record.specs.Changes.{current}
 use Rattle.record.specs.Line.{InArrays, Line, line_of}
@@ -22,7 +19,6 @@ use Rattle.rules.specs.Call.{eap, last_time}
 use Rattle.rules.specs.Life.{goes, keeps, outcome, packet_taken}
 use Rattle.rules.specs.Refusals.{has_no_room, is_allowed, is_due, is_held_full, is_malformed, is_out_of_range, is_spi_taken, refusals_of}
 use Rattle.rules.specs.declared.Action.{Action}
-use Rattle.rules.specs.declared.Action.TheVariants as Action
 use Rattle.step.specs.Step.{Gives, effect, effect_in}
 use Rattle.step.specs.declared.Stepped.{Stepped}
 use Rattle.step.proofs.Steps.{accepted, taken, turned_away, untimely}
@@ -38,12 +34,11 @@ module _ (r : Stepped) (x found : Line) (p : Packet) where
   due e g = rw e g
 
 -- a packet that is none of the three is turned away
-pub foreign : (p : Packet) → OneOf (1 ∷ 2 ∷ 3 ∷ 4 ∷ 5 ∷ []) (tag_of the_type p) → OneOf (0 ∷ 2 ∷ 3 ∷ 4 ∷ 5 ∷ []) (tag_of the_type p)
-    → OneOf (0 ∷ 1 ∷ 3 ∷ 4 ∷ 5 ∷ []) (tag_of the_type p) → is_request p ≡ false
+pub foreign : (p : Packet) → ((i : ℕ) → p ≡ Start i → ⊥) → ((i at n : ℕ) → p ≡ NasRequest i at n → ⊥) → ((i : ℕ) → p ≡ Success i → ⊥) → is_request p ≡ false
 unfolding is_request
-foreign (Start i) k₁ k₂ k₃ = absurd (miss (1 ∷ 2 ∷ 3 ∷ 4 ∷ 5 ∷ []) 0 tt k₁)
-foreign (NasRequest i at n) k₁ k₂ k₃ = absurd (miss (0 ∷ 2 ∷ 3 ∷ 4 ∷ 5 ∷ []) 1 tt k₂)
-foreign (Success i) k₁ k₂ k₃ = absurd (miss (0 ∷ 1 ∷ 3 ∷ 4 ∷ 5 ∷ []) 2 tt k₃)
+foreign (Start i) k₁ k₂ k₃ = absurd (k₁ i refl)
+foreign (NasRequest i at n) k₁ k₂ k₃ = absurd (k₂ i at n refl)
+foreign (Success i) k₁ k₂ k₃ = absurd (k₃ i refl)
 foreign (NasResponse i q m at n) k₁ k₂ k₃ = refl
 foreign (Stop i) k₁ k₂ k₃ = refl
 foreign Other k₁ k₂ k₃ = refl

@@ -1,18 +1,14 @@
 -- What the variants of a phase and of its turn tell of the identifiers during EAP.
 use Prim.Native.Nat.{ℕ}
 use mathlib.Core.Bool.{false, true≢false}
-use mathlib.Core.List.{[], ◌∷◌}
 use mathlib.Core.Option.{none, some}
 use mathlib.Core.Path.{◌≡◌, refl}
-use denote.Enum.Declared.{tag_of}
-use types.Run.{OneOf, miss}
 use Rattle.phase.specs.Stage.{is_in}
 use Rattle.phase.specs.Stage as Stage
 use Rattle.phase.specs.declared.Phase.{Phase}
 use Rattle.phase.specs.declared.Phase.TheVariants.{Idle, Country, Name, Chosen, Init, Auth, Eap, Sure, Live}
 use Rattle.phase.specs.declared.Turn.{Turn}
 use Rattle.phase.specs.declared.Turn.TheVariants.{First, Owed, Answered}
-use Rattle.phase.specs.contracts.Turn.{the_type}
 use Rattle.rules.specs.Phases.{is_first, last_reply, owed, turn_in}
 
 -- outside EAP there is no turn
@@ -29,16 +25,16 @@ no_turn (Sure a) e = refl
 no_turn (Live a) e = refl
 
 -- a turn that is owed has no last reply
-pub unanswered : (t : Turn) → OneOf (0 ∷ 1 ∷ []) (tag_of the_type t) → last_reply (some t) ≡ none
+pub unanswered : (t : Turn) → ((i : ℕ) → t ≡ Answered i → ⊥) → last_reply (some t) ≡ none
 unfolding last_reply
 unanswered (First i) k = refl
 unanswered (Owed i) k = refl
-unanswered (Answered i) k = absurd (miss (0 ∷ 1 ∷ []) 2 tt k)
+unanswered (Answered i) k = absurd (k i refl)
 
 -- the first reply was made where the turn is not the first
-pub not_first : (t : Turn) → OneOf (1 ∷ 2 ∷ []) (tag_of the_type t) → is_first (some t) ≡ false
+pub not_first : (t : Turn) → ((i : ℕ) → t ≡ First i → ⊥) → is_first (some t) ≡ false
 unfolding is_first
-not_first (First i) k = absurd (miss (1 ∷ 2 ∷ []) 0 tt k)
+not_first (First i) k = absurd (k i refl)
 not_first (Owed i) k = refl
 not_first (Answered i) k = refl
 

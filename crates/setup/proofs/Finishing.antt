@@ -17,7 +17,6 @@ use Rattle.rules.specs.Life.{Outcome, becomes, outcome}
 use Rattle.rules.specs.Refusals.{is_short, refusals_of}
 use Rattle.rules.specs.Run.{run}
 use Rattle.rules.specs.declared.Action.{Action}
-use Rattle.rules.specs.declared.Action.TheVariants as Action
 use Rattle.step.specs.Laws.{result_by, stored_by}
 use Rattle.step.specs.Step.{effect, outcome_by}
 use Rattle.step.proofs.Steps.{less_none}

@@ -6,36 +6,30 @@ use Rattle.attempt.proofs.decided.Goals as goal
 
 pub asked-length-requires : goal.asked-length-requires
 asked-length-requires c =
-    let start = c.before.before.before.before.before.before.before in
-    lies _ _ _ _ _ start.requires.0 c.build.ensures (search rules)
+    lies _ _ _ _ _ c.requires.0 c.build-n.ensures (search rules)
 
 pub returns-in-Stop : goal.returns-in-Stop
 returns-in-Stop c =
-    let start = asked.before.before.before.before.before.before.before.before in
-    let build = c.build in
-    λ x held. says x _ _ _ _ _ _ _ start.requires.0 build.ensures (search rules) (stops x _ _ _ _ c.choice-1.given.1)
+    let build = c.build-n in
+    λ x held. says x _ _ _ _ _ _ _ c.requires.0 build.ensures (search rules) (stops x _ _ _ _ c.in-Stop.is)
 
 pub returns-in-Country : goal.returns-in-Country
 returns-in-Country c =
-    let start = asked.before.before.before.before.before.before.before.before in
-    let build = c.build in
-    λ x held. says x _ _ _ _ _ _ _ start.requires.0 build.ensures (search rules) (asks_country_lem x _ _ _ _ c.asked-length.ensures _ c.enum_told-1.given.1)
+    let build = c.build-n in
+    λ x held. says x _ _ _ _ _ _ _ c.requires.0 build.ensures (search rules) (asks_country_lem x _ _ _ _ c.asked-length.ensures _ c.in-Country.is)
 
 pub returns-in-Text : goal.returns-in-Text
 returns-in-Text c =
-    let start = asked.before.before.before.before.before.before.before.before in
-    let build = c.build in
-    λ x held. says x _ _ _ _ _ _ _ start.requires.0 build.ensures (search rules) (asks_text x _ _ _ _ c.asked-length.ensures _ _ c.choice-in-Text-1.given.1 start.requires.0)
+    let build = c.build-n in
+    λ x held. says x _ _ _ _ _ _ _ c.requires.0 build.ensures (search rules) (asks_text x _ _ _ _ c.asked-length.ensures _ _ c.in-Text.is c.requires.0)
 
 pub returns-in-Network : goal.returns-in-Network
 returns-in-Network c =
-    let start = asked.before.before.before.before.before.before.before.before in
-    let build = c.build in
-    λ x held. says x _ _ _ _ _ _ _ start.requires.0 build.ensures (search rules) (asks_built x _ _ _ _ c.asked-length.ensures _ c.enum_told-in-Network-1.given.1)
+    let build = c.build-n in
+    λ x held. says x _ _ _ _ _ _ _ c.requires.0 build.ensures (search rules) (asks_built x _ _ _ _ c.asked-length.ensures _ c.in-Network.is)
 
 pub returns-in-Address : goal.returns-in-Address
 returns-in-Address c =
-    let start = asked.before.before.before.before.before.before.before.before in
-    let build = c.build in
-    λ x held. says x _ _ _ _ _ _ _ start.requires.0 build.ensures (search rules)
-    (answers_one x _ _ _ _ c.choice-in-Address-1.given.1 _ (c.choose_one.ensures _ (held _ c.choice-in-Address-1.given.1)) _ c.gateway_found.ensures)
+    let build = c.build-n in
+    λ x held. says x _ _ _ _ _ _ _ c.requires.0 build.ensures (search rules)
+    (answers_one x _ _ _ _ c.in-Address.is _ (c.choose_one.ensures _ (held _ c.in-Address.is)) _ c.gateway_found.ensures)

@@ -1,13 +1,12 @@
 -- `attempt::gateway_found` meets its contract: what was found says the phase and the action.
 use mathlib.Core.Path.{refl}
-use borrow.Author.Rules.{rules}
 use Rattle.rules.specs.Life.{gateway_found, goes}
 use Rattle.attempt.proofs.gateway_found.Goals as goal
 
 pub returns-in-Chosen : goal.returns-in-Chosen
 unfolding gateway_found goes
-returns-in-Chosen c = λ x. rw c.found-1.given.1 refl
+returns-in-Chosen c = λ x. rw c.in-Chosen.is refl
 
 pub returns-in-Nothing : goal.returns-in-Nothing
 unfolding gateway_found goes
-returns-in-Nothing c = λ x. rw c.found-in-Nothing-1.given.1 refl
+returns-in-Nothing c = λ x. rw c.in-Nothing.is refl

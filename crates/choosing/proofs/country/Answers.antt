@@ -1,8 +1,6 @@
 -- `choosing::country` meets its contract: no reply, no network, or one and more.
 use mathlib.Core.Bool.{true, false}
 use mathlib.Core.Path.{◌≡◌, sym, ◌∙◌}
-use borrow.Author.Tests.{not-true, not-false}
-use borrow.Author.Rules.{rules}
 use Rattle.config.specs.Settings.{settings_in}
 use Rattle.lists.specs.Lists.{networks_in}
 use Rattle.ranking.proofs.Picks.{no_network, some_network}
@@ -13,7 +11,7 @@ use Rattle.choosing.proofs.country.Goals as goal
 pub returns-then-not-replied : goal.returns-then-not-replied
 unfolding country_reply country
 returns-then-not-replied c =
-    let unreplied : c.args.replied ≡ false = not-true _ c.if-not-replied.true in
+    let unreplied : c.args.replied ≡ false = c.if-not-replied.true in
     sym (rw unreplied)
 
 pub returns-then-networks-lt4 : goal.returns-then-networks-lt4
@@ -21,7 +19,7 @@ unfolding country_reply
 returns-then-networks-lt4 c =
     let a = c.args in
     let l = a.networks.now in
-    let replied : a.replied ≡ true = not-false _ c.if-not-replied.false in
+    let replied : a.replied ≡ true = c.if-not-replied.false in
     c.none_listed.ensures ∙ rw replied (none_is (settings_in a.plmns.now a.bars.now a.config) a.facts (networks_in l) (no_network l c.if-networks-lt4.true))
 
 pub returns : goal.returns
@@ -29,6 +27,6 @@ unfolding country_reply
 returns c =
     let a = c.args in
     let l = a.networks.now in
-    let replied : a.replied ≡ true = not-false _ c.if-not-replied.false in
+    let replied : a.replied ≡ true = c.if-not-replied.false in
     let listed = some_network l c.if-networks-lt4.false in
     c.one_or_more.ensures ∙ rw replied (more_are (settings_in a.plmns.now a.bars.now a.config) a.facts (networks_in l) listed.0 listed.1 listed.2)

@@ -1,6 +1,5 @@
 -- `choosing::none_listed` meets its contract: the home step is the last resort.
 use mathlib.Core.Path.{ap₂, ◌∙◌}
-use borrow.Author.Rules.{rules}
 use Rattle.selection.specs.Selection.{ask_or}
 use Rattle.choosing.proofs.none_listed.Goals as goal
 

@@ -2,7 +2,6 @@
 use mathlib.Core.List.{List}
 use mathlib.Core.Option.{Option}
 use mathlib.Core.Path.{◌≡◌, sym, ap, ◌∙◌}
-use borrow.Author.Rules.{rules}
 use Rattle.config.specs.Settings.{Settings}
 use Rattle.network.specs.Plmn.{plmn_option}
 use Rattle.network.specs.declared.MaybePlmn.{MaybePlmn}
@@ -35,13 +34,13 @@ module _ (s : Settings) (f : Facts) (ps : List Plmn) (q r : MaybePlmn) (counts :
 
 pub returns-in-Is : goal.returns-in-Is
 returns-in-Is c =
-    registered-first _ _ _ _ _ c.counting.ensures c.if_listed-listed.ensures _ c.listed-1.given.1
+    registered-first _ _ _ _ _ c.counting.ensures c.if_listed-listed.ensures _ c.in-Is.is
 
 pub returns-in-Is-ranked : goal.returns-in-Is-ranked
 returns-in-Is-ranked c =
-    best-second _ _ _ _ _ c.counting.ensures c.if_listed-listed.ensures c.enum_told-1.given.1 _ c.ranked.ensures _ c.p-1.given.1
+    best-second _ _ _ _ _ c.counting.ensures c.if_listed-listed.ensures c.in_default.is _ c.ranked.ensures _ c.in-Is-ranked.is
 
 pub returns : goal.returns
 returns c =
     c.ask_or.ensures ∙ ap (λ (o : Option Plmn). ask_or o (Stop 3)) c.unranked.ensures
-    ∙ any-third _ _ _ _ _ c.counting.ensures c.if_listed-listed.ensures c.enum_told-1.given.1 _ c.ranked.ensures c.enum_told-in_default-ranked-1.given.1
+    ∙ any-third _ _ _ _ _ c.counting.ensures c.if_listed-listed.ensures c.in_default.is _ c.ranked.ensures c.in_default-ranked.is

@@ -1,7 +1,6 @@
 -- `choosing::start` meets its contract: the place picks the case.
 use mathlib.Core.Option.{Option}
 use mathlib.Core.Path.{sym, ap, ◌∙◌}
-use borrow.Author.Rules.{rules}
 use Rattle.config.specs.Settings.{settings_in}
 use Rattle.network.specs.declared.Plmn.{Plmn}
 use Rattle.selection.specs.Selection.{abroad, registered, start, start_at}
@@ -9,12 +8,12 @@ use Rattle.choosing.proofs.start.Goals as goal
 
 pub returns-in-Unknown : goal.returns-in-Unknown
 unfolding start start_at
-returns-in-Unknown c = sym (rw c.enum_told-1.given.1)
+returns-in-Unknown c = sym (rw c.in-Unknown.is)
 
 pub returns-in-Home : goal.returns-in-Home
 unfolding start start_at
-returns-in-Home c = rw c.enum_told-in-Home-1.given.1 c.at_home.ensures
+returns-in-Home c = rw c.in-Home.is c.at_home.ensures
 
 pub returns-in-Abroad : goal.returns-in-Abroad
 unfolding start start_at registered
-returns-in-Abroad c = rw c.place-1.given.1 (c.abroad.ensures ∙ ap (λ (o : Option Plmn). abroad (settings_in c.args.plmns.now c.args.bars.now c.args.config) o c.place-1.given.0.0) c.counting.ensures)
+returns-in-Abroad c = rw c.in-Abroad.is (c.abroad.ensures ∙ ap (λ (o : Option Plmn). abroad (settings_in c.args.plmns.now c.args.bars.now c.args.config) o c.in-Abroad.mcc) c.counting.ensures)

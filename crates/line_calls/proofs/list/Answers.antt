@@ -1,5 +1,4 @@
 -- `line_calls::list` meets its contract: a listing that is not refused changes nothing.
-use borrow.Author.Rules.{rules}
 use borrow.Author.Tests.{ltb-false}
 use Rattle.rules.proofs.Accepted.{tenant_range}
 use Rattle.frame.proofs.Entries.{in_range_lem, is_long_lem, is_sound}
@@ -9,7 +8,7 @@ use Rattle.line_calls.proofs.list.Goals as goal
 pub returns-then-number-ne0 : goal.returns-then-number-ne0
 returns-then-number-ne0 c =
     let away = c.refuse.ensures in
-    list_at_first _ _ _ _ c.checked-number.ensures c.if-number-ne0.true _ _ _ away.0 away.1.1 away.1.0
+    list_at_first _ _ _ _ c.checked-number.ensures c.if-number-ne0.true _ _ _ away.value away.answer_after away.buffer_after
 
 pub list-written-requires : goal.list-written-requires
 list-written-requires c =
@@ -18,4 +17,4 @@ list-written-requires c =
 
 pub returns : goal.returns
 returns c =
-    listed _ _ _ _ c.checked-number.ensures c.if-number-ne0.false _ c.list-written.ensures.0 _ c.list-written.ensures.1 _ c.numbers.ensures
+    listed _ _ _ _ c.checked-number.ensures c.if-number-ne0.false _ c.list-written.ensures.buffer_after _ c.list-written.ensures.value _ c.numbers.ensures

@@ -1,11 +1,10 @@
 -- `listing::find_lines` meets its contract. The loop's invariant: of the records from i on, the first ones of the lines are found.
-use Prim.Native.Nat.{◌≤◌}
-use mathlib.Core.Path.{◌≡◌, refl, ◌∙◌}
+use mathlib.Core.Path.{refl, ◌∙◌}
 use native.Mathlib.Omega.{arith}
-use lib.ListN.{length, length-set}
+use lib.ListN.{length-set}
 use borrow.Author.Rules.{rules}
 use Rattle.table.specs.Table.{pair_at}
-use Rattle.listing.proofs.Finds.{Found, found_all, found_none, found_other, found_own}
+use Rattle.listing.proofs.Finds.{found_all, found_none, found_other, found_own}
 use Rattle.listing.proofs.find_lines.Goals as goal
 
 pub loop-i-init : goal.loop-i-init

@@ -1,11 +1,8 @@
 -- `listing::find_lines` meets its contract. The loop's invariant: of the records from i on, the first ones of the lines are found.
 use Prim.Native.Nat.{◌≤◌}
-use mathlib.Core.Path.{◌≡◌, refl, ◌∙◌}
-use native.Mathlib.Omega.{arith}
-use lib.ListN.{length, length-set}
-use borrow.Author.Rules.{rules}
-use Rattle.table.specs.Table.{pair_at}
-use Rattle.listing.proofs.Finds.{Found, found_all, found_none, found_other, found_own}
+use mathlib.Core.Path.{◌≡◌}
+use lib.ListN.{length}
+use Rattle.listing.proofs.Finds.{Found}
 use Rattle.listing.proofs.find_lines.Given as goal
 
 abbrev pub invariant-loop-i : goal.invariant-loop-i

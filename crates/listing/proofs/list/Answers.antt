@@ -1,21 +1,19 @@
 -- `listing::list` meets its contract. The loop's invariant: the texts of the lines that are left make the whole.
-use Prim.Native.Nat.{◌-◌, ◌≤◌}
-use mathlib.Core.Path.{refl, sym, ap, ◌∙◌}
+use mathlib.Core.Path.{◌≡◌, refl, sym, ap, ◌∙◌}
 use native.Mathlib.Omega.{arith}
 use lib.ListN.{length}
 use borrow.Author.Rules.{rules}
-use Rattle.octets.specs.Row.{row}
+use Rattle.octets.specs.Part.{padded}
 use Rattle.octets.proofs.Parts.{length_zeros}
 use Rattle.table.specs.Slots.{slots_of}
 use Rattle.table.proofs.Puts.{table_length_lem}
-use Rattle.rules.specs.Listing.{list_from}
 use Rattle.rules.specs.View.{own_line}
 use Rattle.rules.proofs.Found.{record_there}
 use Rattle.rules.proofs.Listings.{listing_short}
 use Rattle.listing.specs.Branch.{open_text}
 use Rattle.listing.specs.Listed.{listing_of}
 use Rattle.listing.proofs.Lines.{own_in}
-use Rattle.listing_field.proofs.Puts.{Left, fits_as, left_all, left_done, left_fits, left_less, put_as, put_padded}
+use Rattle.listing_field.proofs.Puts.{fits_as, left_all, left_done, left_fits, left_less, put_as, put_padded}
 use Rattle.listing.proofs.Texts.{next_line, no_line}
 use Rattle.listing.proofs.list.Goals as goal
 
@@ -57,4 +55,7 @@ returns c =
     let at-loop = c.loop-line in
     let a = c.args in
     let short = listing_short a.table.now c.requires.0 a.tenant in
-    put_padded c.zero.ensures (omega arith) (left_done at-loop.invariant.1 (no_line (own_line a.tenant (slots_of a.table.now)) at-loop.line 4 (omega arith)))
+    let whole = listing_of a.tenant a.table.now in
+    let done : (at-loop.buffer ≡ padded (length a.buffer.now) whole) × (at-loop.at ≡ length whole) =
+    put_padded c.zero.ensures (omega arith) (left_done at-loop.invariant.1 (no_line (own_line a.tenant (slots_of a.table.now)) at-loop.line 4 (omega arith))) in
+    record { buffer_after = done.0; value = done.1 }

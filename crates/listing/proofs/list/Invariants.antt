@@ -1,22 +1,11 @@
 -- `listing::list` meets its contract. The loop's invariant: the texts of the lines that are left make the whole.
 use Prim.Native.Nat.{◌-◌, ◌≤◌}
-use mathlib.Core.Path.{refl, sym, ap, ◌∙◌}
-use native.Mathlib.Omega.{arith}
-use lib.ListN.{length}
-use borrow.Author.Rules.{rules}
 use Rattle.octets.specs.Row.{row}
-use Rattle.octets.proofs.Parts.{length_zeros}
 use Rattle.table.specs.Slots.{slots_of}
-use Rattle.table.proofs.Puts.{table_length_lem}
 use Rattle.rules.specs.Listing.{list_from}
 use Rattle.rules.specs.View.{own_line}
-use Rattle.rules.proofs.Found.{record_there}
-use Rattle.rules.proofs.Listings.{listing_short}
-use Rattle.listing.specs.Branch.{open_text}
 use Rattle.listing.specs.Listed.{listing_of}
-use Rattle.listing.proofs.Lines.{own_in}
-use Rattle.listing_field.proofs.Puts.{Left, fits_as, left_all, left_done, left_fits, left_less, put_as, put_padded}
-use Rattle.listing.proofs.Texts.{next_line, no_line}
+use Rattle.listing_field.proofs.Puts.{Left}
 use Rattle.listing.proofs.list.Given as goal
 
 abbrev pub invariant-loop-line : goal.invariant-loop-line

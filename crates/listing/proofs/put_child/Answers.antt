@@ -1,27 +1,10 @@
 -- `listing::put_child` meets its contract: label, SPI and session are stored one behind the other.
 use mathlib.Core.Path.{sym}
-use borrow.Author.Rules.{rules}
 use Rattle.text.specs.Text.{text}
 use Rattle.rules.specs.Listing.{newline, tab}
 use Rattle.listing_field.proofs.Puts.{and_then, fits_as, fits_behind, fits_first, put_as}
 use Rattle.listing.proofs.Texts.{child_parts}
 use Rattle.listing.proofs.put_child.Goals as goal
-
--- LEFT
-slice-aggregate-put-number : tie.Need-slice-aggregate-put-number
-slice-aggregate-put-number c = search rules
-
--- LEFT
-slice-aggregate-put-number-2 : tie.Need-slice-aggregate-put-number-2
-slice-aggregate-put-number-2 c = search rules
-
--- LEFT
-slice-aggregate-put-number-3 : tie.Need-slice-aggregate-put-number-3
-slice-aggregate-put-number-3 c = search rules
-
--- LEFT
-slice-aggregate-put-number-4 : tie.Need-slice-aggregate-put-number-4
-slice-aggregate-put-number-4 c = search rules
 
 pub put_number-start-requires : goal.put_number-start-requires
 unfolding text tab newline

@@ -1,13 +1,11 @@
 -- `listing::put_children` meets its contract. The loop's invariant: the records of the children that are left make the whole.
-use Prim.Native.Nat.{◌-◌, ◌≤◌}
 use mathlib.Core.Path.{sym, ap}
 use native.Mathlib.Nat.{sub-zero}
 use borrow.Author.Rules.{rules}
-use Rattle.octets.specs.Row.{joined, row}
 use Rattle.children.specs.Children.{child_in, children_from}
 use Rattle.record.specs.Octets.{children_place}
 use Rattle.rules.specs.Listing.{child_text}
-use Rattle.listing_field.proofs.Puts.{Left, fits_as, left_all, left_done, left_fits, left_less, put_as}
+use Rattle.listing_field.proofs.Puts.{fits_as, left_all, left_done, left_fits, left_less, put_as}
 use Rattle.listing.proofs.Texts.{next_joined, none_joined}
 use Rattle.listing.proofs.put_children.Goals as goal
 

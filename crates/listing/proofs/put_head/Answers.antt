@@ -1,22 +1,9 @@
 -- `listing::put_head` meets its contract: label, word and address are stored one behind the other.
-use borrow.Author.Rules.{rules}
 use Rattle.text.specs.Text.{text}
 use Rattle.rules.specs.Listing.{tab}
 use Rattle.listing.specs.Branch.{head_text}
 use Rattle.listing_field.proofs.Puts.{and_then, fits_behind, fits_first}
 use Rattle.listing.proofs.put_head.Goals as goal
-
--- LEFT
-slice-aggregate-put-number : tie.Need-slice-aggregate-put-number
-slice-aggregate-put-number c = search rules
-
--- LEFT
-slice-aggregate-put-number-2 : tie.Need-slice-aggregate-put-number-2
-slice-aggregate-put-number-2 c = search rules
-
--- LEFT
-slice-aggregate-put-text : tie.Need-slice-aggregate-put-text
-slice-aggregate-put-text c = search rules
 
 pub put_number-start-requires : goal.put_number-start-requires
 unfolding head_text text tab

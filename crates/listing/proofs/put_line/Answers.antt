@@ -1,6 +1,5 @@
 -- `listing::put_line` meets its contract: the children stand behind the line.
 use mathlib.Core.Path.{sym}
-use borrow.Author.Rules.{rules}
 use Rattle.record.specs.Octets.{line_from}
 use Rattle.record.proofs.Sounds.{child_octet, sound_phase}
 use Rattle.listing_field.proofs.Puts.{and_then, fits_as, fits_behind, fits_first, put_as}

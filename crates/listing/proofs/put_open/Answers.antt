@@ -1,7 +1,6 @@
 -- `listing::put_open` meets its contract: nothing is stored past the last record.
 use mathlib.Core.Path.{sym, ap, ◌∙◌}
 use native.Mathlib.Omega.{arith}
-use borrow.Author.Rules.{rules}
 use Rattle.record.specs.Sound.{is_record}
 use Rattle.table.specs.Table.{slot}
 use Rattle.listing.proofs.Lines.{none_text, some_text}

@@ -1,19 +1,10 @@
 -- `listing::put_tail` meets its contract: the children stand behind their count.
 use mathlib.Core.Path.{sym}
-use borrow.Author.Rules.{rules}
 use Rattle.record.specs.Octets.{children_place}
 use Rattle.rules.specs.Listing.{newline, tab}
 use Rattle.listing_field.proofs.Puts.{and_then, fits_as, fits_behind, fits_first, put_as}
 use Rattle.listing.proofs.Texts.{tail_parts}
 use Rattle.listing.proofs.put_tail.Goals as goal
-
--- LEFT
-slice-aggregate-put-number : tie.Need-slice-aggregate-put-number
-slice-aggregate-put-number c = search rules
-
--- LEFT
-slice-aggregate-put-number-2 : tie.Need-slice-aggregate-put-number-2
-slice-aggregate-put-number-2 c = search rules
 
 pub put_number-place-requires : goal.put_number-place-requires
 unfolding tab newline

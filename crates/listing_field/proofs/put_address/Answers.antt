@@ -1,14 +1,9 @@
 -- `listing_field::put_address` meets its contract: the address, or a hyphen.
 use mathlib.Core.Path.{sym}
-use borrow.Author.Rules.{rules}
 use Rattle.text.specs.Text.{text}
 use Rattle.listing_field.proofs.Phases.{address_at_lem, hyphen_at}
 use Rattle.listing_field.proofs.Puts.{fits_as, put_as}
 use Rattle.listing_field.proofs.put_address.Goals as goal
-
--- LEFT
-slice-aggregate-put-text : tie.Need-slice-aggregate-put-text
-slice-aggregate-put-text c = search rules
 
 pub put_text-requires : goal.put_text-requires
 unfolding text

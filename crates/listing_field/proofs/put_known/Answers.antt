@@ -16,20 +16,20 @@ spelt a = address_text (some a)
 
 pub put_hex-requires : goal.put_hex-requires
 unfolding address_text version_of width_of number_of
-put_hex-requires c = fits_as (ap spelt c.address-1.given.1) c.requires
+put_hex-requires c = fits_as (ap spelt c.in-V4.is) c.requires
 
 pub put_hex-middle-requires : goal.put_hex-middle-requires
 put_hex-middle-requires c =
-    fits_first _ (fits_as (ap spelt c.address-in-V6-1.given.1 ∙ halves_text _ _ (search rules)) c.requires)
+    fits_first _ (fits_as (ap spelt c.in-V6.is ∙ halves_text _ _ (search rules)) c.requires)
 
 pub put_hex-requires-in-V6 : goal.put_hex-requires-in-V6
 put_hex-requires-in-V6 c =
-    fits_behind c.put_hex-middle.ensures (fits_as (ap spelt c.address-in-V6-1.given.1 ∙ halves_text _ _ (search rules)) c.requires)
+    fits_behind c.put_hex-middle.ensures (fits_as (ap spelt c.in-V6.is ∙ halves_text _ _ (search rules)) c.requires)
 
 pub returns-in-V4 : goal.returns-in-V4
 unfolding address_text version_of width_of number_of
-returns-in-V4 c = put_as (sym (ap spelt c.address-1.given.1)) c.put_hex.ensures
+returns-in-V4 c = put_as (sym (ap spelt c.in-V4.is)) c.put_hex.ensures
 
 pub returns-in-V6 : goal.returns-in-V6
 returns-in-V6 c =
-    put_as (sym (ap spelt c.address-in-V6-1.given.1 ∙ halves_text _ _ (search rules))) (and_then c.put_hex-middle.ensures c.put_hex-in-V6.ensures)
+    put_as (sym (ap spelt c.in-V6.is ∙ halves_text _ _ (search rules))) (and_then c.put_hex-middle.ensures c.put_hex-in-V6.ensures)

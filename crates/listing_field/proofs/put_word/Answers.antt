@@ -1,6 +1,5 @@
 -- `listing_field::put_word` meets its contract: each phase has its word.
 use mathlib.Core.Path.{sym, ap}
-use borrow.Author.Rules.{rules}
 use Rattle.phase.specs.Stage as Stage
 use Rattle.phase.proofs.Bools.{above_2}
 use Rattle.text.specs.Text.{text}
@@ -8,42 +7,6 @@ use Rattle.rules.specs.Listing.{word}
 use Rattle.listing_field.proofs.Phases.{last_number, numbered, word_at}
 use Rattle.listing_field.proofs.Puts.{fits_as, put_as}
 use Rattle.listing_field.proofs.put_word.Goals as goal
-
--- LEFT
-slice-aggregate-put-text : tie.Need-slice-aggregate-put-text
-slice-aggregate-put-text c = search rules
-
--- LEFT
-slice-aggregate-put-text-2 : tie.Need-slice-aggregate-put-text-2
-slice-aggregate-put-text-2 c = search rules
-
--- LEFT
-slice-aggregate-put-text-3 : tie.Need-slice-aggregate-put-text-3
-slice-aggregate-put-text-3 c = search rules
-
--- LEFT
-slice-aggregate-put-text-4 : tie.Need-slice-aggregate-put-text-4
-slice-aggregate-put-text-4 c = search rules
-
--- LEFT
-slice-aggregate-put-text-5 : tie.Need-slice-aggregate-put-text-5
-slice-aggregate-put-text-5 c = search rules
-
--- LEFT
-slice-aggregate-put-text-6 : tie.Need-slice-aggregate-put-text-6
-slice-aggregate-put-text-6 c = search rules
-
--- LEFT
-slice-aggregate-put-text-7 : tie.Need-slice-aggregate-put-text-7
-slice-aggregate-put-text-7 c = search rules
-
--- LEFT
-slice-aggregate-put-text-8 : tie.Need-slice-aggregate-put-text-8
-slice-aggregate-put-text-8 c = search rules
-
--- LEFT
-slice-aggregate-put-text-9 : tie.Need-slice-aggregate-put-text-9
-slice-aggregate-put-text-9 c = search rules
 
 pub put_text-requires : goal.put_text-requires
 unfolding text word

@@ -1,5 +1,4 @@
 -- `query::nothing` meets its contract: a buffer of zeros holds no name.
-use borrow.Author.Rules.{rules}
 use Rattle.query.proofs.Names.{no_name_lem}
 use Rattle.query.proofs.nothing.Goals as goal
 

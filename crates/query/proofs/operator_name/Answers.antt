@@ -9,18 +9,6 @@ use Rattle.network.specs.Name.{operator_name}
 use Rattle.query.proofs.Names.{named}
 use Rattle.query.proofs.operator_name.Goals as goal
 
--- LEFT
-slice-aggregate-put-code : tie.Need-slice-aggregate-put-code
-slice-aggregate-put-code c = search rules
-
--- LEFT
-slice-aggregate-put-code-2 : tie.Need-slice-aggregate-put-code-2
-slice-aggregate-put-code-2 c = search rules
-
--- LEFT
-slice-aggregate-copy : tie.Need-slice-aggregate-copy
-slice-aggregate-copy c = search rules
-
 pub returns : goal.returns
 unfolding operator_name text digit_text digits
 returns c =

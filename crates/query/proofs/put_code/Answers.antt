@@ -1,6 +1,5 @@
 -- `query::put_code` meets its contract: the digits are stored right after the label, so that both are one write.
 use mathlib.Core.Path.{refl}
-use borrow.Author.Rules.{rules}
 use Rattle.octets.proofs.Parts.{then}
 use Rattle.query.proofs.put_code.Goals as goal
 

@@ -8,14 +8,6 @@ use Rattle.network.specs.Name.{visited_name}
 use Rattle.query.proofs.Names.{named}
 use Rattle.query.proofs.visited_name.Goals as goal
 
--- LEFT
-slice-aggregate-put-code : tie.Need-slice-aggregate-put-code
-slice-aggregate-put-code c = search rules
-
--- LEFT
-slice-aggregate-copy : tie.Need-slice-aggregate-copy
-slice-aggregate-copy c = search rules
-
 pub returns : goal.returns
 unfolding visited_name text digit_text digits
 returns c =

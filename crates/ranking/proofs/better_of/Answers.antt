@@ -2,8 +2,6 @@
 use Prim.Native.Nat.{◌≤◌, ◌<◌}
 use mathlib.Core.Bool.{true, false}
 use mathlib.Core.Path.{◌≡◌, sym, subst}
-use borrow.Author.Rules.{rules}
-use borrow.Author.Tests.{not-true, not-false}
 use Rattle.entry.specs.declared.field.Preferred.{Preferred}
 use Rattle.preference.specs.Preference.{better}
 use Rattle.ranking.specs.Branch.{where_found}
@@ -23,17 +21,17 @@ pub returns-then-not-found : goal.returns-then-not-found
 unfolding better where_found
 returns-then-not-found c =
     let a = c.args in
-    let none_found : a.found ≡ false = not-true a.found c.if-not-found.true in
+    let none_found : a.found ≡ false = c.if-not-found.true in
     sym (rw none_found)
 
 pub returns-then-second-first : goal.returns-then-second-first
 returns-then-second-first c =
     let a = c.args in
-    let one_found : a.found ≡ true = not-false a.found c.if-not-found.false in
+    let one_found : a.found ≡ true = c.if-not-found.false in
     rw one_found (later _ _ _ _ c.listed_in-first.ensures c.listed_in-second.ensures c.if-second-first.true)
 
 pub returns : goal.returns
 returns c =
     let a = c.args in
-    let one_found : a.found ≡ true = not-false a.found c.if-not-found.false in
+    let one_found : a.found ≡ true = c.if-not-found.false in
     rw one_found (earlier _ _ _ _ c.listed_in-first.ensures c.listed_in-second.ensures c.if-second-first.false)

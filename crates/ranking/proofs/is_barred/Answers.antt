@@ -1,5 +1,4 @@
 -- `ranking::is_barred` meets its contract: the forbidden list is gone through.
-use borrow.Author.Rules.{rules}
 use Rattle.preference.specs.Preference.{barred}
 use Rattle.config.specs.Settings.{settings_in}
 use Rattle.ranking.proofs.is_barred.Goals as goal

@@ -1,15 +1,9 @@
 -- `ranking::is_listed` meets its contract. The loop's invariant: the networks that are left decide.
-use Prim.Native.Nat.{ℕ, ◌-◌, ◌/◌, ◌≤◌}
-use mathlib.Core.Bool.{true, false}
-use mathlib.Core.Path.{◌≡◌, sym, ap, ◌∙◌}
-use native.Mathlib.Nat.{sub-zero}
-use native.Mathlib.Omega.{arith}
-use lib.ListN.{length}
-use borrow.Author.Rules.{rules}
-use Rattle.network.specs.Plmn.{among, same_plmn}
+use Prim.Native.Nat.{◌-◌, ◌≤◌}
+use mathlib.Core.Path.{◌≡◌}
+use Rattle.network.specs.Plmn.{among}
 use Rattle.octets.specs.Row.{row}
 use Rattle.lists.specs.Lists.{network_at, networks_in}
-use Rattle.ranking.proofs.Picks.{among_more, among_done}
 use Rattle.ranking.proofs.is_listed.Given as goal
 
 abbrev pub invariant-loop-i : goal.invariant-loop-i

@@ -1,6 +1,5 @@
 -- `ranking::is_offered` meets its contract: a list of fewer than four octets has no network.
 use mathlib.Core.Path.{◌∙◌}
-use borrow.Author.Rules.{rules}
 use Rattle.ranking.proofs.Picks.{offers_visited, offers_listed}
 use Rattle.ranking.proofs.is_offered.Goals as goal
 

@@ -1,5 +1,4 @@
 -- `ranking::is_preferred` meets its contract: the `plmn` records are gone through.
-use borrow.Author.Rules.{rules}
 use Rattle.preference.specs.Preference.{preferred}
 use Rattle.config.specs.Settings.{settings_in}
 use Rattle.ranking.proofs.is_preferred.Goals as goal

@@ -1,5 +1,5 @@
 -- `ranking::unranked` meets its contract. The loop's invariant: the networks that are left decide.
-use Prim.Native.Nat.{ℕ, ◌-◌, ◌/◌, ◌≤◌}
+use Prim.Native.Nat.{ℕ, ◌/◌}
 use mathlib.Core.Bool.{true, false, not}
 use mathlib.Core.Option.{some}
 use mathlib.Core.Path.{◌≡◌, sym, ap, ◌∙◌}
@@ -33,7 +33,7 @@ returns-then-not-is_barred c =
     let s = settings_in a.plmns.now a.bars.now a.config in
     let at-loop = c.loop-i in
     let here = c.network_at-p.ensures in
-    let free : unbarred s (network_at l at-loop.i) ≡ true = sym (ap (unbarred s) here) ∙ sym (ap not c.is_barred.ensures) ∙ c.if-not-is_barred.true in
+    let free : unbarred s (network_at l at-loop.i) ≡ true = sym (ap (unbarred s) here) ∙ ap not (sym c.is_barred.ensures ∙ c.if-not-is_barred.true) in
     ap some here ∙ sym (at-loop.invariant.1 ∙ first_here (network_at l) (unbarred s) at-loop.i (length l / 4) c.loop-i-test.true free)
 
 pub loop-i-preserved : goal.loop-i-preserved
@@ -44,7 +44,7 @@ loop-i-preserved c =
     let s = settings_in a.plmns.now a.bars.now a.config in
     let at-loop = c.loop-i in
     let here = c.network_at-p.ensures in
-    let taken_out : unbarred s (network_at l at-loop.i) ≡ false = sym (ap (unbarred s) here) ∙ sym (ap not c.is_barred.ensures) ∙ c.if-not-is_barred.false in
+    let taken_out : unbarred s (network_at l at-loop.i) ≡ false = sym (ap (unbarred s) here) ∙ ap not (sym c.is_barred.ensures ∙ c.if-not-is_barred.false) in
     (search rules, at-loop.invariant.1 ∙ first_more (network_at l) (unbarred s) at-loop.i (length l / 4) c.loop-i-test.true taken_out)
 
 pub returns : goal.returns

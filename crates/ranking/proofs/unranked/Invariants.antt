@@ -1,15 +1,7 @@
 -- `ranking::unranked` meets its contract. The loop's invariant: the networks that are left decide.
-use Prim.Native.Nat.{ℕ, ◌-◌, ◌/◌, ◌≤◌}
-use mathlib.Core.Bool.{true, false, not}
-use mathlib.Core.Option.{some}
-use mathlib.Core.Path.{◌≡◌, sym, ap, ◌∙◌}
-use native.Mathlib.Nat.{sub-zero}
-use native.Mathlib.Omega.{arith}
-use lib.ListN.{length}
-use borrow.Author.Rules.{rules}
-use Rattle.network.specs.Plmn.{plmn_option}
+use Prim.Native.Nat.{◌-◌, ◌≤◌}
+use mathlib.Core.Path.{◌≡◌}
 use Rattle.octets.specs.Row.{row, first}
-use Rattle.octets.proofs.Rows.{first_more, first_here, first_none}
 use Rattle.lists.specs.Lists.{network_at, networks_in}
 use Rattle.preference.specs.Preference.{unbarred, unranked}
 use Rattle.config.specs.Settings.{settings_in}

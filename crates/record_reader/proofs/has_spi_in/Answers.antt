@@ -1,7 +1,6 @@
 -- `record_reader::has_spi_in` meets its contract: the SPI is looked for among as many children as the count says.
 use Prim.Native.Nat.{ℕ}
 use mathlib.Core.Path.{ap, ◌∙◌}
-use borrow.Author.Rules.{rules}
 use Rattle.children.specs.Children.{children_from, has_spi}
 use Rattle.record.specs.Octets.{children_place, line_from}
 use Rattle.record_reader.proofs.has_spi_in.Goals as goal

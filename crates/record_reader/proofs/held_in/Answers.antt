@@ -1,5 +1,5 @@
 -- `record_reader::held_in` meets its contract. The loop's invariant: the answers before number i are those of their addresses.
-use Prim.Native.Nat.{ℕ, zero, suc, ◌+◌, ◌-◌, ◌*◌, ◌≤◌, ◌<◌}
+use Prim.Native.Nat.{ℕ, zero, suc, ◌+◌, ◌*◌, ◌≤◌, ◌<◌}
 use mathlib.Core.Bool.{Bool, true, false, ◌&&◌, true≢false}
 use mathlib.Core.List.{List}
 use mathlib.Core.Path.{◌≡◌, refl, sym, ap, ◌∙◌}
@@ -12,10 +12,9 @@ use borrow.Author.Rules.{rules}
 use Rattle.octets.specs.Row.{only, row}
 use Rattle.octets.specs.Search.{any_of}
 use Rattle.octets.proofs.Search.{and_left, and_right, and_true, either, lower}
-use Rattle.address.specs.Address.{held_addresses, stands}
+use Rattle.address.specs.Address.{stands}
 use Rattle.address.specs.declared.Address.{Address}
-use Rattle.holds.specs.Holds.{ends_after, holds_from}
-use Rattle.lists.specs.Lists.{address_at}
+use Rattle.holds.specs.Holds.{holds_from}
 use Rattle.record.specs.Changes.{in_force, with_holds}
 use Rattle.record.specs.Octets.{line_from}
 use Rattle.record_reader.proofs.held_in.Invariants.{on-hold, Is}

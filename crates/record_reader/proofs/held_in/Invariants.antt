@@ -1,23 +1,14 @@
 -- `record_reader::held_in` meets its contract. The loop's invariant: the answers before number i are those of their addresses.
-use Prim.Native.Nat.{ℕ, zero, suc, ◌+◌, ◌-◌, ◌*◌, ◌≤◌, ◌<◌}
-use mathlib.Core.Bool.{Bool, true, false, ◌&&◌, true≢false}
+use Prim.Native.Nat.{ℕ, ◌-◌, ◌≤◌, ◌<◌}
+use mathlib.Core.Bool.{Bool, false}
 use mathlib.Core.List.{List}
-use mathlib.Core.Path.{◌≡◌, refl, sym, ap, ◌∙◌}
-use native.Mathlib.Omega.{arith}
-use lib.Dec.{leb, ltb}
-use lib.ListN.{length, get_or, replicate, set, length-set}
-use lib.Seq.{get_or-set_other, get_or-set_same}
-use borrow.Author.Tests.{le-leb, lt-ltb, ltb-true}
-use borrow.Author.Rules.{rules}
-use Rattle.octets.specs.Row.{only, row}
-use Rattle.octets.specs.Search.{any_of}
-use Rattle.octets.proofs.Search.{and_left, and_right, and_true, either, lower}
+use mathlib.Core.Path.{◌≡◌}
+use lib.ListN.{length, get_or}
+use Rattle.octets.specs.Row.{only}
 use Rattle.address.specs.Address.{held_addresses, stands}
 use Rattle.address.specs.declared.Address.{Address}
 use Rattle.holds.specs.Holds.{ends_after, holds_from}
 use Rattle.lists.specs.Lists.{address_at}
-use Rattle.record.specs.Changes.{in_force, with_holds}
-use Rattle.record.specs.Octets.{line_from}
 use Rattle.record_reader.proofs.held_in.Given as goal
 
 -- the addresses of those of the first n holds that end after a time

@@ -2,7 +2,6 @@
 use Prim.Native.Nat.{ℕ}
 use mathlib.Core.Path.{ap, ◌∙◌}
 use lib.ListN.{length}
-use borrow.Author.Rules.{rules}
 use Rattle.octets.specs.Row.{only}
 use Rattle.holds.specs.Holds.{ends_after, holds_from}
 use Rattle.record.specs.Changes.{in_force, with_holds}

@@ -1,7 +1,6 @@
 -- `record_reader::is_held_in` meets its contract: the address is looked for among as many holds as the count says.
 use Prim.Native.Nat.{ℕ}
 use mathlib.Core.Path.{ap, ◌∙◌}
-use borrow.Author.Rules.{rules}
 use Rattle.octets.specs.Row.{only}
 use Rattle.address.specs.Address.{held_addresses, stands}
 use Rattle.holds.specs.Holds.{ends_after, holds_from}

@@ -1,6 +1,5 @@
 -- `record_reader::read_unheld` meets its contract: where the phase stands and the children are read at their places.
 use mathlib.Core.Path.{ap, ap₂, ◌∙◌}
-use borrow.Author.Rules.{rules}
 use Rattle.children.specs.Children.{children_from}
 use Rattle.record.specs.Changes.{unheld}
 use Rattle.record.specs.Octets.{children_place, line_from}
@@ -11,4 +10,7 @@ unfolding line_from
 returns c =
     let r = c.unheld.ensures in
     let l = c.args.b.now in
-    (r.0 ∙ ap₂ unheld c.read_bare.ensures (c.read_children-children.ensures ∙ ap (children_from l children_place) c.get-n.ensures.0), r.1)
+    record {
+      result_value = r.result_value ∙ ap₂ unheld c.read_bare.ensures (c.read_children-children.ensures ∙ ap (children_from l children_place) c.get-n.ensures.0);
+      in_arrays = r.in_arrays;
+    }

@@ -1,7 +1,6 @@
 -- `record_reader::read_unlisted` meets its contract: where the phase stands is read at its place.
 use mathlib.Core.List.{[]}
 use mathlib.Core.Path.{ap, ◌∙◌}
-use borrow.Author.Rules.{rules}
 use Rattle.phase.specs.declared.Phase.{Phase}
 use Rattle.record.specs.Changes.{unheld}
 use Rattle.record.specs.Octets.{line_from}
@@ -11,4 +10,7 @@ pub returns : goal.returns
 unfolding line_from
 returns c =
     let r = c.unheld.ensures in
-    (r.0 ∙ ap (λ (p : Phase). unheld p []) c.read_bare.ensures, r.1)
+    record {
+      result_value = r.result_value ∙ ap (λ (p : Phase). unheld p []) c.read_bare.ensures;
+      in_arrays = r.in_arrays;
+    }

@@ -7,4 +7,4 @@ use Rattle.record_reader.proofs.unheld.Goals as goal
 
 pub returns : goal.returns
 unfolding line_of unheld
-returns c = (refl, (zero-le, c.requires))
+returns c = record { result_value = refl; in_arrays = (zero-le, c.requires) }

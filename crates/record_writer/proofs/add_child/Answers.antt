@@ -1,6 +1,5 @@
 -- `record_writer::add_child` meets its contract: the child is written behind the others where there is room, and the count is one more.
 use native.Mathlib.Omega.{arith}
-use borrow.Author.Rules.{rules}
 use Rattle.record.proofs.Adding.{child_added}
 use Rattle.record_writer.proofs.add_child.Goals as goal
 

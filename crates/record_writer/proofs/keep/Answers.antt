@@ -1,5 +1,4 @@
 -- `record_writer::keep` meets its contract: the holds that have ended are dropped, and the time and the phase are written.
-use borrow.Author.Rules.{rules}
 use Rattle.record.proofs.Keeping.{kept_in}
 use Rattle.record_writer.proofs.keep.Goals as goal
 

@@ -1,5 +1,4 @@
 -- `record_writer::keep_child` meets its contract: the line goes on, and the child is written behind the others.
-use borrow.Author.Rules.{rules}
 use Rattle.record.proofs.Adding.{child_kept}
 use Rattle.record_writer.proofs.keep_child.Goals as goal
 

@@ -1,5 +1,4 @@
 -- `record_writer::keep_standing` meets its contract: the holds that have ended are dropped, and the time is written, and where the phase stands.
-use borrow.Author.Rules.{rules}
 use Rattle.record.proofs.Keeping.{stood_in}
 use Rattle.record_writer.proofs.keep_standing.Goals as goal
 

@@ -1,6 +1,5 @@
 -- `record_writer::keep_tunnels` meets its contract: the line is kept, and its children are written.
 use lib.ListN.{take}
-use borrow.Author.Rules.{rules}
 use Rattle.record.specs.Changes.{with_children}
 use Rattle.record.proofs.Keeping.{goes_changed}
 use Rattle.record_writer.proofs.keep_tunnels.Goals as goal

@@ -1,6 +1,5 @@
 -- `record_writer::put_head` meets its contract: two writes, the second where the first ends.
 use mathlib.Core.Path.{refl}
-use borrow.Author.Rules.{rules}
 use Rattle.octets.specs.Digits.{be, digits}
 use Rattle.octets.proofs.Parts.{then}
 use Rattle.record_writer.proofs.put_head.Goals as goal

@@ -3,7 +3,6 @@ use Prim.Native.Nat.{ℕ}
 use mathlib.Core.List.{List}
 use mathlib.Core.Path.{ap, ◌∙◌}
 use lib.ListN.{length}
-use borrow.Author.Rules.{rules}
 use Rattle.record.specs.Octets.{line_from}
 use Rattle.table.specs.Table.{slot}
 use Rattle.records.proofs.child_count_at.Goals as goal

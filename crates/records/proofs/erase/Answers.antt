@@ -1,6 +1,5 @@
 -- `records::erase` meets its contract: the octets of one record are zeros afterwards.
 use Prim.Native.Nat.{◌*◌}
-use borrow.Author.Rules.{rules}
 use Rattle.record.specs.Octets.{record_length}
 use Rattle.octets.proofs.Patches.{part_cleared}
 use Rattle.records.proofs.erase.Goals as goal

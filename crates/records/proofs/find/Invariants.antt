@@ -1,11 +1,8 @@
 -- `records::find` meets its contract. The loop's invariant: no record passed has the pair.
-use Prim.Native.Nat.{ℕ, ◌-◌, ◌≤◌}
-use mathlib.Core.Path.{◌≡◌, refl, sym, ◌∙◌, subst}
-use native.Mathlib.Omega.{arith}
-use borrow.Author.Rules.{rules}
+use Prim.Native.Nat.{◌-◌, ◌≤◌}
+use mathlib.Core.Path.{◌≡◌}
 use Rattle.octets.specs.Search.{least}
 use Rattle.table.specs.Table.{has_pair}
-use Rattle.table.proofs.Slots.{pair_here, pair_more}
 use Rattle.records.proofs.find.Given as goal
 
 abbrev pub invariant-loop-i : goal.invariant-loop-i

@@ -2,7 +2,6 @@
 use Prim.Native.Nat.{ℕ}
 use mathlib.Core.List.{List}
 use mathlib.Core.Path.{ap, ◌∙◌}
-use borrow.Author.Rules.{rules}
 use Rattle.address.specs.Address.{held_addresses, stands}
 use Rattle.record.specs.Changes.{in_force}
 use Rattle.record.specs.Octets.{line_from}

@@ -1,5 +1,4 @@
 -- `records::keep_at` meets its contract: the octets of one record are those of the line that is kept.
-use borrow.Author.Rules.{rules}
 use Rattle.record.specs.Changes.{current, in_phase}
 use Rattle.records.proofs.Within.{changed_at, lent_size, lent_sound}
 use Rattle.records.proofs.keep_at.Goals as goal
@@ -14,4 +13,4 @@ returns c =
     let a = c.args in
     let used = c.requires in
     let put = c.keep in
-    changed_at a.table.now a.i (used) (λ x. in_phase (current a.time x) a.phase) _ put.ensures put.auto.0
+    changed_at a.table.now a.i (used) (λ x. in_phase (current a.time x) a.phase) _ put.ensures put.auto.b

@@ -1,7 +1,6 @@
 -- `records::keep_child_at` meets its contract: the octets of one record are those of the line with one child more.
 use mathlib.Core.List.{[], ◌∷◌, ◌++◌}
 use native.Mathlib.Omega.{arith}
-use borrow.Author.Rules.{rules}
 use Rattle.record.specs.Changes.{with_children}
 use Rattle.records.proofs.Within.{goes_at, lent_children, lent_size, lent_sound}
 use Rattle.records.proofs.keep_child_at.Goals as goal
@@ -17,4 +16,4 @@ returns c =
     let a = c.args in
     let used = c.requires in
     let put = c.keep_child in
-    goes_at a.table.now a.i used.0 a.time a.s (λ x. with_children x (x.children ++ a.child ∷ [])) _ put.ensures put.auto.0
+    goes_at a.table.now a.i used.0 a.time a.s (λ x. with_children x (x.children ++ a.child ∷ [])) _ put.ensures put.auto.b

@@ -2,7 +2,6 @@
 use Prim.Native.Nat.{ℕ}
 use mathlib.Core.List.{List}
 use mathlib.Core.Path.{ap, ◌∙◌}
-use borrow.Author.Rules.{rules}
 use Rattle.phase.specs.Chosen.{chosen}
 use Rattle.record.specs.Changes.{held_for}
 use Rattle.record.specs.Octets.{line_from}
@@ -20,4 +19,4 @@ returns c =
     let l = a.table.now in
     let used = c.requires in
     let put = c.keep_hold in
-    λ d is. changed_at l a.i used.0 (held_for a.time d a.end a.count) _ (put.ensures d (ap (λ (r : List ℕ). chosen (line_from r).phase) (lent_is l a.i) ∙ is)) put.auto.0
+    λ d is. changed_at l a.i used.0 (held_for a.time d a.end a.count) _ (put.ensures d (ap (λ (r : List ℕ). chosen (line_from r).phase) (lent_is l a.i) ∙ is)) put.auto.b

@@ -1,5 +1,4 @@
 -- `records::keep_standing_at` meets its contract: the octets of one record are those of the line that goes on.
-use borrow.Author.Rules.{rules}
 use Rattle.records.proofs.Within.{goes_at, lent_size, lent_sound}
 use Rattle.records.proofs.keep_standing_at.Goals as goal
 
@@ -13,4 +12,4 @@ returns c =
     let a = c.args in
     let used = c.requires in
     let put = c.keep_standing in
-    goes_at a.table.now a.i used a.time a.s (λ x. x) _ put.ensures put.auto.0
+    goes_at a.table.now a.i used a.time a.s (λ x. x) _ put.ensures put.auto.b

@@ -1,6 +1,5 @@
 -- `records::open_at` meets its contract: the octets of one record are those of a pair that was just opened.
 use Prim.Native.Nat.{◌*◌}
-use borrow.Author.Rules.{rules}
 use Rattle.octets.proofs.Patches.{part_stored}
 use Rattle.record.specs.Octets.{record_length}
 use Rattle.records.proofs.Within.{lent_whole}
@@ -13,4 +12,4 @@ pub returns : goal.returns
 returns c =
     let a = c.args in
     let put = c.put_fresh in
-    part_stored a.table.now (record_length * a.i) record_length c.requires _ _ put.ensures put.auto.0
+    part_stored a.table.now (record_length * a.i) record_length c.requires _ _ put.ensures put.auto.b

@@ -1,5 +1,4 @@
 -- `records::pair_at` meets its contract: the pair is the first octet.
-use borrow.Author.Rules.{rules}
 use Rattle.table.specs.Table.{pair_at}
 use Rattle.records.proofs.pair_at.Goals as goal
 

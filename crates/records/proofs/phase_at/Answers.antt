@@ -2,7 +2,6 @@
 use Prim.Native.Nat.{ℕ}
 use mathlib.Core.List.{List}
 use mathlib.Core.Path.{ap, ◌∙◌}
-use borrow.Author.Rules.{rules}
 use Rattle.phase.specs.Phase.{phase_from}
 use Rattle.record.specs.Octets.{line_from, phase_place}
 use Rattle.table.specs.Table.{slot}

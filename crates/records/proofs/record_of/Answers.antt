@@ -1,5 +1,4 @@
 -- `records::record_of` meets its contract: there are 32 records.
-use borrow.Author.Rules.{rules}
 use Rattle.table.specs.Table.{record_of}
 use Rattle.records.proofs.record_of.Goals as goal
 

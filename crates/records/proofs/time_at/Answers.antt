@@ -1,7 +1,6 @@
 -- `records::time_at` meets its contract: the time stands behind the pair in the record's octets.
 use mathlib.Core.Path.{sym, ◌∙◌}
 use native.Mathlib.Omega.{arith}
-use borrow.Author.Rules.{rules}
 use Rattle.octets.proofs.Splices.{field_part}
 use Rattle.record.specs.Octets.{line_from, record_length, time_place}
 use Rattle.table.specs.Table.{slot}

@@ -2,7 +2,6 @@
 use Prim.Native.Nat.{ℕ}
 use mathlib.Core.List.{List}
 use mathlib.Core.Path.{ap, ◌∙◌}
-use borrow.Author.Rules.{rules}
 use Rattle.phase.specs.Standing.{bare}
 use Rattle.record.specs.Changes.{unheld}
 use Rattle.record.specs.Octets.{line_from}
@@ -20,4 +19,4 @@ pub returns : goal.returns
 unfolding slot
 returns c =
     let r = c.read_unheld.ensures in
-    (r.0 ∙ ap (λ (s : List ℕ). unheld (bare (line_from s).phase) (line_from s).children) c.part.ensures.0, r.1)
+    record { result_value = r.result_value ∙ ap (λ (s : List ℕ). unheld (bare (line_from s).phase) (line_from s).children) c.part.ensures.0; in_arrays = r.in_arrays }

@@ -17,4 +17,4 @@ pub returns : goal.returns
 unfolding slot
 returns c =
     let r = c.read_unlisted.ensures in
-    (r.0 ∙ ap (λ (s : List ℕ). unheld (bare (line_from s).phase) []) c.part.ensures.0, r.1)
+    record { result_value = r.result_value ∙ ap (λ (s : List ℕ). unheld (bare (line_from s).phase) []) c.part.ensures.0; in_arrays = r.in_arrays }

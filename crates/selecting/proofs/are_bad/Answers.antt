@@ -1,7 +1,6 @@
 -- `selecting::are_bad` meets its contract: its tests are those of the definition.
 use mathlib.Core.Path.{sym, ◌∙◌}
-use borrow.Author.Rules.{rules}
-use borrow.Author.Tests.{lt-ltb, le-ltb, not-true, not-false}
+use borrow.Author.Tests.{lt-ltb, le-ltb}
 use Rattle.rules.specs.Refusals.{bad_networks}
 use Rattle.selecting.proofs.are_bad.Goals as goal
 
@@ -13,10 +12,10 @@ pub returns-then-not-networks_fit : goal.returns-then-not-networks_fit
 unfolding bad_networks
 returns-then-not-networks_fit c =
     let fit = c.networks_fit in
-    rw (le-ltb _ _ c.if-replied-gt1.false, sym fit.ensures ∙ not-true fit.result c.if-not-networks_fit.true)
+    rw (le-ltb _ _ c.if-replied-gt1.false, sym fit.ensures ∙ c.if-not-networks_fit.true)
 
 pub returns : goal.returns
 unfolding bad_networks
 returns c =
     let fit = c.networks_fit in
-    rw (le-ltb _ _ c.if-replied-gt1.false, sym fit.ensures ∙ not-false fit.result c.if-not-networks_fit.false)
+    rw (le-ltb _ _ c.if-replied-gt1.false, sym fit.ensures ∙ c.if-not-networks_fit.false)

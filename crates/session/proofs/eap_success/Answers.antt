@@ -1,9 +1,7 @@
 -- `session::eap_success` meets its contract: Success is due where its identifier is that of the last reply.
-use borrow.Author.Rules.{rules}
 use borrow.Author.Tests.{eq-eqb, ne_eqb}
 use Rattle.phase.specs.Chosen.{chosen}
-use Rattle.phase.specs.Stage as Stage
-use Rattle.phase.proofs.Stages.{other_stage, tags}
+use Rattle.phase.proofs.Stages.{not_eap}
 use Rattle.record.specs.Changes.{in_phase}
 use Rattle.record.specs.Line.{line_of}
 use Rattle.rules.specs.Life.{goes, keeps, onward, packet_taken}
@@ -18,7 +16,7 @@ refused-requires c = c.requires.0
 
 pub returns-in_default : goal.returns-in_default
 unfolding is_due line_of last_reply is_identifier
-returns-in_default c = not_due _ _ _ _ (rw (no_turn _ (other_stage Stage.eap _ tags c.in_default.keys2))) c.refused.ensures
+returns-in_default c = not_due _ _ _ _ (rw (no_turn _ (not_eap _ c.in_default.not-Eap))) c.refused.ensures
 
 pub refused-requires-in_default-turn : goal.refused-requires-in_default-turn
 refused-requires-in_default-turn c = c.requires.0
@@ -26,7 +24,7 @@ refused-requires-in_default-turn c = c.requires.0
 pub returns-in_default-turn : goal.returns-in_default-turn
 unfolding is_due line_of turn_in is_identifier
 returns-in_default-turn c =
-    not_due _ _ _ _ (rw (c.phase-1.given.1, unanswered _ c.in_default-turn.keys2)) c.refused-in_default-turn.ensures
+    not_due _ _ _ _ (rw (c.in-Eap.is, unanswered _ c.in_default-turn.not-Answered)) c.refused-in_default-turn.ensures
 
 pub refused-requires-then-identifier-last : goal.refused-requires-then-identifier-last
 refused-requires-then-identifier-last c = c.requires.0
@@ -34,7 +32,7 @@ refused-requires-then-identifier-last c = c.requires.0
 pub returns-then-identifier-last : goal.returns-then-identifier-last
 unfolding is_due line_of turn_in last_reply is_identifier
 returns-then-identifier-last c =
-    not_due _ _ _ _ (rw (c.phase-1.given.1, c.turn-1.given.1, ne_eqb _ _ c.if-identifier-last.true)) c.refused-then-identifier-last.ensures
+    not_due _ _ _ _ (rw (c.in-Eap.is, c.in-Answered.is, ne_eqb _ _ c.if-identifier-last.true)) c.refused-then-identifier-last.ensures
 
 pub goes-requires : goal.goes-requires
 goes-requires c = c.requires.1
@@ -42,5 +40,5 @@ goes-requires c = c.requires.1
 pub returns : goal.returns
 unfolding is_due line_of turn_in last_reply is_identifier packet_taken keeps goes in_phase onward chosen
 returns c =
-    let in_eap_lem = c.phase-1.given.1 in
-    due _ _ _ _ (rw (in_eap_lem, c.turn-1.given.1, eq-eqb _ _ c.if-identifier-last.false)) (rw in_eap_lem c.goes.ensures)
+    let in_eap_lem = c.in-Eap.is in
+    due _ _ _ _ (rw (in_eap_lem, c.in-Answered.is, eq-eqb _ _ c.if-identifier-last.false)) (rw in_eap_lem c.goes.ensures)

@@ -1,7 +1,5 @@
 -- `session::lacks_parameters` meets its contract: only a first turn asks for AN-parameters.
-use borrow.Author.Rules.{rules}
-use Rattle.phase.specs.Stage as Stage
-use Rattle.phase.proofs.Stages.{other_stage, tags}
+use Rattle.phase.proofs.Stages.{not_eap}
 use Rattle.rules.specs.Phases.{is_first, turn_in}
 use Rattle.rules.specs.Refusals.{lacks_parameters}
 use Rattle.session.proofs.Turns.{no_turn, not_first}
@@ -9,12 +7,12 @@ use Rattle.session.proofs.lacks_parameters.Goals as goal
 
 pub returns-in_default : goal.returns-in_default
 unfolding lacks_parameters is_first
-returns-in_default c = rw (no_turn _ (other_stage Stage.eap _ tags c.in_default.keys2))
+returns-in_default c = rw (no_turn _ (not_eap _ c.in_default.not-Eap))
 
 pub returns-in_default-turn : goal.returns-in_default-turn
 unfolding lacks_parameters turn_in
-returns-in_default-turn c = rw (c.phase-1.given.1, not_first _ c.in_default-turn.keys2)
+returns-in_default-turn c = rw (c.in-Eap.is, not_first _ c.in_default-turn.not-First)
 
 pub returns : goal.returns
 unfolding lacks_parameters turn_in is_first
-returns c = rw (c.phase-1.given.1, c.enum_told-1.given.1)
+returns c = rw (c.in-Eap.is, c.in-First.is)

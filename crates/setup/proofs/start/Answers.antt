@@ -1,51 +1,40 @@
 -- `setup::start` meets its contract.
-use Prim.Native.Nat.{ℕ}
 use mathlib.Core.Path.{refl, sym}
-use lib.Dec.{ltb}
-use lib.ListN.{length}
-use borrow.Author.Rules.{rules}
 use borrow.Author.Tests.{ltb-false}
-use Rattle.selecting.specs.Selects.{Selects}
-use Rattle.frame.specs.Entering.{Passes}
 use Rattle.record.specs.Changes.{current, in_force, with_holds}
 use Rattle.record.specs.Octets.{line_from}
 use Rattle.table.specs.Table.{slot}
 use Rattle.rules.specs.Answer.{event_room, room_of}
-use Rattle.rules.specs.Call.{last_time, start, start_numbers}
+use Rattle.rules.specs.Call.{start, start_numbers}
 use Rattle.rules.specs.Refusals.{is_short, least_event_room, least_room}
 use Rattle.settling.proofs.Timed.{turned_away_named}
 use Rattle.setup.proofs.start.Goals as goal
-
--- behind the choice
-module _ (c : tie.After-start-choice) where
-  abbrev given : tie.Start
-  given = c.before.before.before.before.before.before.before.before.before.before.before.before
-
-  passes : Passes c.before.before.before.before.before.before.before.enter.result given.args.tenant given.args.line given.args.time (ltb (length given.args.name.now) 64) given.args.table.now
-  passes = c.before.before.before.before.before.before.before.enter.ensures.passes c.before.before.before.before.before.if1.false
-
-  chosen : (room : ℕ) → Selects c.start-choice.result (start (start_numbers given.args.place given.args.mcc given.args.registered given.args.registered-mcc given.args.registered-mnc given.args.version) given.args.text.now room) (ltb last_time given.args.time)
-      (current given.args.time (line_from (slot given.args.table.now c.before.before.before.before.before.before.before.enter.result.at))) given.args.text.now
-  unfolding current in_force with_holds start_numbers
-  chosen room = c.start-choice.ensures _ room (sym c.before.before.before.phase-at.ensures) (sym c.before.in-force-at.ensures)
 
 pub returns-then-entered-ne0 : goal.returns-then-entered-ne0
 unfolding is_short room_of least_room least_event_room event_room
 returns-then-entered-ne0 c =
     let away = c.refuse.ensures in
-    turned_away_named _ _ _ (start _ _ _) _ _ _ refl _ _ _ c.enter-entered.ensures c.if-entered-ne0.true _ _ _ away.0 away.1.1 away.1.0
+    let named = turned_away_named _ _ _ (start _ _ _) _ _ _ refl _ _ _ c.enter-entered.ensures c.if-entered-ne0.true _ _ _ away.value away.answer_after away.buffer_after in
+    record { table_after = named.0; part_within = named.1 }
 
 pub phase_at-phase-requires : goal.phase_at-phase-requires
-phase_at-phase-requires c = (c.enter.ensures.passes c.if1.false).stands.used
+phase_at-phase-requires c = (c.enter-entered.ensures.passes c.if-entered-ne0.false).stands.used
 
 pub in_force_at-in_force-requires : goal.in_force_at-in_force-requires
-in_force_at-in_force-requires c = (c.enter.ensures.passes c.if1.false).stands.used
+in_force_at-in_force-requires c = (c.enter-entered.ensures.passes c.if-entered-ne0.false).stands.used
 
 pub finish-requires : goal.finish-requires
+unfolding current in_force with_holds start_numbers
 finish-requires c =
-    ((passes c).stands, (chosen c 0).within, ltb-false _ _ (passes c).buffer_fits)
+    let found = current c.args.time (line_from (slot c.args.table.now c.enter-entered.result.at)) in
+    let passes = c.enter-entered.ensures.passes c.if-entered-ne0.false in
+    let chosen = c.start_choice-chosen.ensures found 0 (sym c.phase_at-phase.ensures) (sym c.in_force_at-in_force.ensures) in
+    (passes.stands, chosen.within, ltb-false _ _ passes.buffer_fits)
 
 pub returns : goal.returns
-unfolding is_short room_of least_room least_event_room event_room
+unfolding is_short room_of least_room least_event_room event_room current in_force with_holds start_numbers
 returns c =
-    c.finish.ensures _ _ _ (start _ _ _) (passes c) refl refl (chosen c _)
+    let found = current c.args.time (line_from (slot c.args.table.now c.enter-entered.result.at)) in
+    let passes = c.enter-entered.ensures.passes c.if-entered-ne0.false in
+    let named = c.finish.ensures _ _ _ (start _ _ _) passes refl refl (c.start_choice-chosen.ensures found _ (sym c.phase_at-phase.ensures) (sym c.in_force_at-in_force.ensures)) in
+    record { table_after = named.0; part_within = named.1 }

@@ -1,5 +1,4 @@
 -- `selecting::given::facts_of` meets its contract: each fact is said by the numbers that belong to it.
-use borrow.Author.Rules.{rules}
 use Rattle.rules.specs.Call.{facts_of}
 use Rattle.selecting.proofs.given.facts_of.Goals as goal
 
