@@ -1,7 +1,6 @@
 -- `whole::address_answer` meets its contract: the answer is the one on the line with the holds that are in force.
 use mathlib.Core.List.{List}
 use mathlib.Core.Path.{ap, subst}
-use borrow.Author.Rules.{rules}
 use Rattle.address.specs.Address.{held_addresses}
 use Rattle.address.specs.declared.Hold.{Hold}
 use Rattle.lists.specs.Held.{HeldAre}
@@ -16,11 +15,11 @@ returns-then-stepped-ne0 c =
     let a = c.args in
     let l = a.addresses.now in
     let found = c.current-found in
-    let in_force_lem = ap (λ (x : Line). x.holds) found.ensures.0 in
+    let in_force_lem = ap (λ (x : Line). x.holds) found.ensures.result_value in
     let are = c.held_among-held in
-    let told = c.answered-stepped.ensures.0 (line_of a.line).holds (λ h. subst (λ (hs : List Hold). HeldAre are.result l (held_addresses hs)) in_force_lem (are.ensures h)) in
+    let told = c.answered-stepped.ensures.hs_value (line_of a.line).holds (λ h. subst (λ (hs : List Hold). HeldAre are.result l (held_addresses hs)) in_force_lem (are.ensures h)) in
     let gives = c.refused.ensures in
-    (sent_back l a.time a.line found.result c.answered-stepped.result _ found.ensures.0 told c.if-stepped-ne0.true gives, gives.in_arrays)
+    record { result_value = sent_back l a.time a.line found.result c.answered-stepped.result _ found.ensures.result_value told c.if-stepped-ne0.true gives; in_arrays = gives.in_arrays }
 
 pub returns : goal.returns
 unfolding line_of current
@@ -28,8 +27,8 @@ returns c =
     let a = c.args in
     let l = a.addresses.now in
     let found = c.current-found in
-    let in_force_lem = ap (λ (x : Line). x.holds) found.ensures.0 in
+    let in_force_lem = ap (λ (x : Line). x.holds) found.ensures.result_value in
     let are = c.held_among-held in
-    let told = c.answered-stepped.ensures.0 (line_of a.line).holds (λ h. subst (λ (hs : List Hold). HeldAre are.result l (held_addresses hs)) in_force_lem (are.ensures h)) in
+    let told = c.answered-stepped.ensures.hs_value (line_of a.line).holds (λ h. subst (λ (hs : List Hold). HeldAre are.result l (held_addresses hs)) in_force_lem (are.ensures h)) in
     let gives = c.goes.ensures in
-    (carried_on l a.time a.line found.result c.answered-stepped.result _ found.ensures.0 told c.if-stepped-ne0.false gives, gives.in_arrays)
+    record { result_value = carried_on l a.time a.line found.result c.answered-stepped.result _ found.ensures.result_value told c.if-stepped-ne0.false gives; in_arrays = gives.in_arrays }

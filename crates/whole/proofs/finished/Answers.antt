@@ -1,6 +1,5 @@
 -- `whole::finished` meets its contract: the choice was refused, or it decides.
 use mathlib.Core.Path.{ap, ◌∙◌}
-use borrow.Author.Rules.{rules}
 use Rattle.record.specs.Line.{line_of}
 use Rattle.attempt.proofs.Answers.{carried_out, turned_back}
 use Rattle.octets.specs.Part.{zeros}
