@@ -1,7 +1,7 @@
 #!/usr/bin/env bash
 # What the gate runs behind the proofs: builds the archive, sees that the header, the example and an installed copy fit it, and compares it
-# with its twin in C and with the second program, whose own tests it runs. Each check is one line, 'ok - ..' or 'not ok - ..'; what a failed one said goes to standard error. The last line is
-# the tally 'N passed, M failed'.
+# with its twin in C and with the second program, whose own tests it runs. Each check is one line, 'ok - ..' or 'not ok - ..'; what a failed
+# one said goes to standard error. The last line is the tally 'N passed, M failed'.
 set -u -o pipefail
 export LC_ALL=C
 cd "$(dirname "$0")/.." || exit 2

@@ -1,5 +1,5 @@
 #!/usr/bin/env python3
-"""Spells the names that specs/ and proofs/ declare as words in snake case: `numberFrom` is `number_from`, `least-bound` is `least_bound`.
+"""Spells the names that specs/ and the files right below proofs/ declare as words in snake case: `numberFrom` is `number_from`, `least-bound` is `least_bound`.
 
 usage: tools/respell.py [FOLDER]     below FOLDER (the repository): crates/, README.md and docs/, in place; a second run changes nothing
 
@@ -13,7 +13,6 @@ import sys
 
 WORD = re.compile(r'[^\s(){}.;,@"«»`]+')
 DECLARED = re.compile(r"(?m)^ *(?:(?:unfoldable|abbrev|pub|mutual|infixl?|infixr) +)*([^\s(){}.;,:]+)(?: \{[^{}\n]*\})* +:(?= |$)")
-CONSTRUCTOR = re.compile(r"(?m)^ *(?:unfoldable |abbrev |pub )*\(?([^\s(){}.;,:]+)\)? : ")
 SPAN = re.compile(r"`[^`\n]+`")
 # Lemmas whose plain spelling a field has.
 APART = {"child-count": "child_count_lem", "hold-count": "hold_count_lem"}

@@ -1,4 +1,4 @@
--- Where a node name stands, in a text that has one; the function `places` promises it.
+-- Where the node name of one text stands; the function `places` promises it.
 use Rattle.std.specs.Prelude.{ℕ, List, [], ◌∷◌, ◌≡◌, drop}
 use Rattle.config.specs.Settings.{name_place}
 
