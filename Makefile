@@ -16,9 +16,10 @@ version = $(shell awk '$$2 ~ /^SCAL_VERSION_(MAJOR|MINOR|PATCH)$$/ { v = v dot $
 
 all: $(archive)
 
-# `rt lib` proves what is not proved yet, and leaves the archive in the folder of its crate.
+# `rt all check` proves on all processors, and `rt lib` leaves the archive in the folder of its crate.
 $(archive): $(sources)
-	rt lib scaltrovina
+	rt all check --jobs $$(nproc)
+	cd crates/scaltrovina && rt lib
 	mkdir -p $(@D)
 	cp crates/scaltrovina/out/libscaltrovina.a $@
 

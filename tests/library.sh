@@ -46,7 +46,7 @@ ended() { # NAME
 # An archive of an earlier run proves nothing, so it goes first.
 archive_is_built() {
     rm -f "$archive"
-    rt lib scaltrovina && mkdir -p "${archive%/*}" && cp crates/scaltrovina/out/libscaltrovina.a "$archive"
+    rt all check --jobs "$(nproc)" && (cd crates/scaltrovina && rt lib) && mkdir -p "${archive%/*}" && cp crates/scaltrovina/out/libscaltrovina.a "$archive"
 }
 
 header_stands_alone() { # COMPILER STANDARD SUFFIX
