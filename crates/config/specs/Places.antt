@@ -1,11 +1,10 @@
--- Where the node name of one text stands; the function `places` promises it.
-use Rattle.std.specs.Prelude.{ℕ, List, [], ◌∷◌, ◌≡◌, drop}
+-- Where a node name stands; the function `places` promises it.
+use Rattle.std.specs.Prelude.{ℕ, ◌<◌, List, ◌∷◌, ◌++◌, ◌≡◌, ◌≢◌, get_or, length, drop}
+use Rattle.entry.specs.Entry.{before_name}
+use Rattle.entry.specs.Pieces.{newline_code}
 use Rattle.config.specs.Settings.{name_place}
 
--- the entries `home` with 001 and 01, and `node` with the name `a`
-unfoldable pub named : List ℕ
-named = 104 ∷ 111 ∷ 109 ∷ 101 ∷ 9 ∷ 48 ∷ 48 ∷ 49 ∷ 9 ∷ 48 ∷ 49 ∷ 10 ∷ 110 ∷ 111 ∷ 100 ∷ 101 ∷ 9 ∷ 110 ∷ 97 ∷ 109 ∷ 101 ∷ 9 ∷ 97 ∷ 10 ∷ []
-
 pub record Places : Type 0 where
-  -- the name and the newline behind it are left
-  pub behind : drop (name_place named) named ≡ 97 ∷ 10 ∷ []
+  -- whatever the first line is, what stands behind the second line's octets before a name is left
+  pub behind : (h w rest : List ℕ) → ((k : ℕ) → k < length h → get_or h k 0 ≢ newline_code) → length w ≡ before_name
+      → drop (name_place (h ++ newline_code ∷ w ++ rest)) (h ++ newline_code ∷ w ++ rest) ≡ rest

@@ -43,7 +43,7 @@ pub struct Parsed {
     pub config: Config,
 }
 
-// Does nothing; its promise is where the node name of one text stands.
+// Does nothing; its promise is where a node name stands.
 pub fn places()
     ensures { Places }
 {}

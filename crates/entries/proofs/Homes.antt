@@ -1,6 +1,6 @@
 -- `home` at the start of a text.
-use Prim.Native.Nat.{ℕ, ◌+◌, ◌-◌, ◌<◌}
-use mathlib.Core.Bool.{true, false, true≢false}
+use Prim.Native.Nat.{ℕ, ◌+◌, ◌<◌}
+use mathlib.Core.Bool.{true, false}
 use mathlib.Core.List.{List, [], ◌∷◌, ◌++◌}
 use mathlib.Core.Option.{none, some}
 use mathlib.Core.Path.{◌≡◌, refl, sym, ap, ◌∙◌}
@@ -11,8 +11,7 @@ use lib.Seq.{get_or-append_seam, get_or-drop}
 use borrow.Author.Tests.{eq-eqb, not-true}
 use Rattle.octets.specs.Digits.{be, digits}
 use Rattle.octets.specs.Part.{octet_is, part, same}
-use Rattle.octets.specs.Search.{least}
-use Rattle.octets.proofs.Search.{least_bound, least_found, least_passes, lower}
+use Rattle.octets.proofs.Search.{lower}
 use Rattle.text.specs.Text.{text}
 use Rattle.network.specs.declared.Plmn.{Plmn}
 use Rattle.entry.specs.Entry.{home_entry, three}
@@ -26,6 +25,7 @@ use Rattle.fields.specs.declared.read.PlmnAt.{PlmnAt}
 use Rattle.fields.specs.declared.read.PlmnAt.TheVariants.{Is, Not}
 use Rattle.fields.proofs.Plmns.{no_room}
 use Rattle.entries.specs.Branch.{HomeIs}
+use Rattle.config.proofs.Ends.{line_end_at}
 use Rattle.config.specs.Lines.{entries_from, line_end}
 use Rattle.config.specs.Settings.{as_home, config_of, from_home, name_place, with_home}
 use Rattle.entries.proofs.Runs.{by_silence}
@@ -38,21 +38,16 @@ free_each x l e j h = not-true (eqb (get_or l j 0) x) (passes_each (is_not x) l 
 
 -- a line ends at its first newline
 line_ends : (l : List ℕ) (at : ℕ) (line m : List ℕ) → drop at l ≡ line ++ 10 ∷ m → Free 10 line → line_end l at ≡ at + length line
-unfolding line_end octet_is
+unfolding octet_is
 line_ends l at line m e free =
-    ap (λ (k : ℕ). at + k) (least_found (length l - at) (octet_is l at 10) (length line) none_before (eq-eqb _ _ (get_d_of (length line) ∙ get_or-append_seam line 10 m 0)) (omega (arith, ap length e, length-drop at l, length-append line (10 ∷ m))))
+    line_end_at l at (length line) other (eq-eqb _ _ (get_d_of (length line) ∙ get_or-append_seam line 10 m 0))
+    (omega (arith, ap length e, length-drop at l, length-append line (10 ∷ m)))
   where
     get_d_of : (k : ℕ) → get_or l (at + k) 0 ≡ get_or (line ++ 10 ∷ m) k 0
     get_d_of k = sym (get_or-drop at l k 0) ∙ ap (λ (r : List ℕ). get_or r k 0) e
 
     other : (k : ℕ) → k < length line → octet_is l at 10 k ≡ false
     other k h = ap (λ (v : ℕ). eqb v 10) (get_d_of k ∙ get_or-append line (10 ∷ m) 0 k h) ∙ free_each 10 line free k h
-
-    none_before : least (length line) (octet_is l at 10) ≡ length line
-    none_before =
-        lower (least (length line) (octet_is l at 10)) (length line)
-        (λ h. absurd (true≢false (sym (least_passes (length line) (octet_is l at 10) h) ∙ other _ h)))
-        (λ h. let bound = least_bound (length line) (octet_is l at 10) in omega arith)
 
 module _ (l : List ℕ) where
   no_home : ((a b m : List ℕ) (p : Plmn) → l ≡ line₃ (text "home") a b m → plmn_of a b ≡ some p → ⊥) → none ≡ config_of l
