@@ -1,5 +1,5 @@
 # Builds the library for C, installs it, compares it with the second program, times it beside its twin in C, and runs its example and its
-# tests. All that is built lies under target/ and crates/*/out/, but for the picture docs/speed.svg.
+# tests. All that is built lies under target/, out/ and crates/*/out/, but for the picture docs/speed.svg.
 
 PREFIX = /usr/local
 DESTDIR =
@@ -74,6 +74,6 @@ test:
 	.ci/run
 
 clean:
-	rm -rf target crates/*/out
+	rm -rf target out crates/*/out
 
 .PHONY: all install example compare mutants bench speed test clean
