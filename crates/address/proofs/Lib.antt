@@ -1,3 +1,3 @@
 -- The laws that the proofs of this crate share.
-pub mod Holds
 pub mod Numbers
+pub mod Same

@@ -1,20 +1,18 @@
 -- What the version at a place decides, and what is written as halves.
 use Prim.Native.Nat.{ℕ, ◌+◌, ◌*◌, ◌^◌, ◌≤◌, ◌<◌}
-use mathlib.Core.Bool.{Bool, true, false, ◌&&◌}
+use mathlib.Core.Bool.{true}
 use mathlib.Core.List.{List, ◌++◌, append_assoc, append-nil}
 use mathlib.Core.Path.{◌≡◌, sym, ap, ap₂, ◌∙◌, subst}
 use native.Mathlib.Omega.{arith}
 use lib.Arith.{digits_div, digits_mod}
-use lib.Dec.{eqb}
 use lib.ListN.{length}
 use borrow.Author.Tests.{ne_eqb}
 use Rattle.octets.specs.Digits.{be, field}
 use Rattle.octets.specs.Part.{part, same, zeros, zeros_at, Wrote}
 use Rattle.octets.proofs.Digits.{digits_halves}
 use Rattle.octets.proofs.Fields.{field_halves}
-use Rattle.octets.proofs.Search.{either}
 use Rattle.address.specs.Address.{address_of, is_version, number_of, version_of, width_of}
-use Rattle.address.specs.declared.Address.TheVariants.{V4, V6}
+use Rattle.address.specs.declared.Address.TheVariants.{V6}
 use Rattle.addresses.specs.Addresses.{address_from, address_octets, is_address, version_from}
 
 -- the two halves of the widest number
@@ -24,10 +22,6 @@ halves l at fits x y e f =
     field_halves l (at + 1) 8 8 (omega arith) ∙ ap₂ (λ (i k : ℕ). i * 2 ^ 64 + field l k 8) (sym e) place ∙ ap (λ (j : ℕ). x * 2 ^ 64 + j) (sym f)
 
 module _ (l : List ℕ) (at v : ℕ) (of : v ≡ version_from l at) where
-  pub address_4 : v ≡ 4 → (x : ℕ) → x ≡ field l (at + 1) 4 → V4 x ≡ address_from l at
-  unfolding address_from address_of width_of
-  address_4 e x h = rw (sym of ∙ e, h)
-
   pub address_6 : (v ≡ 4 → ⊥) → at + 17 ≤ length l → (x y : ℕ) → x ≡ field l (at + 1) 8 → y ≡ field l (at + 9) 8 → y < 256 ^ 8 → V6 x y ≡ address_from l at
   unfolding address_from address_of width_of
   address_6 h fits x y e f small =
@@ -37,13 +31,6 @@ module _ (l : List ℕ) (at v : ℕ) (of : v ≡ version_from l at) where
   pub version_6 : v ≡ 6 → true ≡ is_address l at
   unfolding is_address is_version width_of zeros_at same part zeros
   version_6 e = rw (sym of ∙ e)
-
-  -- one of version 4 has zeros, and there is no other
-  pub version_4 : (v ≡ 6 → ⊥) → (z : Bool) → z ≡ zeros_at l (at + 5) 12 → eqb v 4 && z ≡ is_address l at
-  unfolding is_address is_version width_of
-  version_4 not-6 z e =
-      let other : eqb (version_from l at) 6 ≡ false = ne_eqb (version_from l at) 6 (subst (λ (k : ℕ). k ≡ 6 → ⊥) of not-6) in
-      rw (e, of, other) (either (version_from l at) 4 (λ q. rw q) (λ n. rw (ne_eqb (version_from l at) 4 n)))
 
 -- two halves are written as the number that they are
 pub halves_wrote : {l m : List ℕ} {at : ℕ} (x y : ℕ) → y < 256 ^ 8 → Wrote l at (be 1 6 ++ be 8 x ++ be 8 y) m → Wrote l at (address_octets (V6 x y)) m

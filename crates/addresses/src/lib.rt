@@ -15,26 +15,28 @@ use buffer::slice::{word, zeros_at};
 pub const ADDRESS: usize = 17;
 
 // The address at a place.
+#[tactic(auto, unfolding(crate::specs::Addresses::address_from, crate::specs::Addresses::version_from, address::specs::Address::address_of, address::specs::Address::width_of))]
 pub fn read_address(list: &[u8], at: usize) -> Address
     requires { at + address_length ≤ length list.now }
     ensures { result ≡ address_from list.now at }
 {
-    if get(list, at, 1) == 4 {
-        return Address::V4(get(list, at + 1, 4));
+    match get(list, at, 1) {
+        4 => Address::V4(get(list, at + 1, 4)),
+        _ => Address::V6(get(list, at + 1, 8), get(list, at + 9, 8)),
     }
-    Address::V6(get(list, at + 1, 8), get(list, at + 9, 8))
 }
 
 // Whether an address stands at a place.
+#[tactic(auto, unfolding(crate::specs::Addresses::is_address, crate::specs::Addresses::version_from, address::specs::Address::is_version, address::specs::Address::width_of, octets::specs::Part::zeros_at))]
 pub fn is_address(list: &[u8], at: usize) -> bool
     requires { at + address_length ≤ length list.now }
     ensures { result ≡ is_address list.now at }
 {
-    let version = get(list, at, 1);
-    if version == 6 {
-        return true;
+    match get(list, at, 1) {
+        4 => zeros_at(list, at + 5, 12),
+        6 => true,
+        _ => false,
     }
-    (version == 4) & zeros_at(list, at + 5, 12)
 }
 
 // The key of the address at a place.

@@ -23,6 +23,7 @@ use Rattle.rules.specs.Life.{Outcome, decided, gateway_found, goes, name_asked}
 use Rattle.rules.specs.declared.Action.TheVariants.{AskBuilt, AskCountry, AskText, Stopped}
 use Rattle.selection.specs.declared.Choice.{Choice}
 use Rattle.selection.specs.declared.Choice.TheVariants.{Stop, Country, Text, Network, Address}
+use Rattle.selection.specs.declared.Stop as Selection
 use Rattle.attempt.specs.Attempt.{Comes, Says}
 use Rattle.attempt.specs.declared.Move.{Move}
 
@@ -48,7 +49,7 @@ module _ (x : Line) (text name : List ℕ) where
 
   decided_names : (f : Facts) (n : ℕ) (c : Choice) → Lies text name n c → Named-by (decided x f text c) text name (built c)
   unfolding decided goes name_asked asked built numbers_of twelve part_named lent_in part
-  decided_names f n (Stop k) l = record { part_is = refl; part_within = omega arith; written_is = refl }
+  decided_names f n (Stop at) l = record { part_is = refl; part_within = omega arith; written_is = refl }
   decided_names f n (Country mcc) l =
       record { part_is = built_part _ name n l.in_name; part_within = built_within _ name n l.in_name; written_is = refl }
   decided_names f n (Text at m) l = record { part_is = refl; part_within = l.in_text; written_is = refl }
@@ -61,9 +62,9 @@ module _ (x : Line) (f : Facts) (text : List ℕ) (c : Choice) where
   abbrev Decides : Move → Type 0
   Decides r = ((decided x f text c).line ≡ in_phase x r.phase) × (r.action ≡ (decided x f text c).action)
 
-  pub stops : (n : ℕ) → c ≡ Stop n → Decides (record { phase = Phase.Idle; action = Stopped n 0 })
+  pub stops : (at : Selection.Stop) → c ≡ Stop at → Decides (record { phase = Phase.Idle; action = Stopped at 0 })
   unfolding decided goes
-  stops n told = rw told (refl, refl)
+  stops at told = rw told (refl, refl)
 
   -- a name is asked whose length the action says
   module _ (l : List ℕ) (is-asked : l ≡ asked text c) where

@@ -1,7 +1,7 @@
 // What a choice and the address answer come to: the phase that a line goes to, and what the daemon has to do.
 #![tactic(auto)]
 
-ghost use Rattle.std.specs.Prelude.{List, ◌≡◌, ◌*◌, ◌≤◌, length};
+ghost use Rattle.std.specs.Prelude.{IfOk, List, ◌≡◌, ◌*◌, ◌≤◌, length};
 ghost use Rattle.octets.specs.Row.{only};
 ghost use Rattle.address.specs.Address.{held_addresses};
 ghost use Rattle.address.specs.declared.Hold.{Hold};
@@ -11,12 +11,12 @@ ghost use Rattle.lists.specs.Held.{HeldAre};
 ghost use Rattle.lists.specs.Lists.{most_entries};
 ghost use Rattle.network.specs.Name.{name_room};
 ghost use Rattle.selection.specs.Query.{TextWithin};
-ghost use Rattle.record.specs.Changes.{with_holds};
-ghost use Rattle.record.specs.Line.{Line, line_of, InArrays};
+ghost use Rattle.record.specs.Changes.{current, in_phase, with_holds};
+ghost use Rattle.record.specs.Line.{Line, line_of};
 ghost use Rattle.rules.specs.Call.{address};
 ghost use Rattle.rules.specs.Life.{decided};
 ghost use Rattle.step.specs.Step.{effect};
-ghost use Rattle.attempt.specs.Attempt.{answered_on, Comes, HoldTold, Says};
+ghost use Rattle.attempt.specs.Attempt.{answered_on, HoldTold, Says};
 
 use gateway::{Found, choose, choose_one};
 use lists::{ENTRIES, addresses_fit};
@@ -24,9 +24,10 @@ use phase::Phase;
 use place::Facts;
 use query::{asked, build};
 use record::Record;
+use refusal::Refusal;
 use rules::Action;
-use selection::Choice;
-use step::{Stepped, current, goes, is_late, refused};
+use selection::{Choice, Stop};
+use step::{Done, Stepped, found_at};
 
 // The phase that a line goes to, and what the daemon has to do.
 #[derive(Clone, Copy)]
@@ -36,18 +37,23 @@ pub struct Move {
 }
 
 // What S5 found: the address is chosen, or selection stops.
-fn gateway_found(found: Found) -> Move
-    ensures { Comes result found }
-{
-    match found {
-        Found::Chosen(a, passed) => Move {
-            phase: Phase::Chosen(a),
-            action: Action::Chose(a, passed),
-        },
-        Found::Nothing(passed) => Move {
-            phase: Phase::Idle,
-            action: Action::Stopped(4, passed),
-        },
+impl From<Found> for Move {
+    ghost use Rattle.attempt.specs.Attempt.{Comes};
+
+    ghost from_gives = { λ found move. Comes move found };
+
+    #[tactic(auto, unfolding(rules::specs::Life::gateway_found, rules::specs::Life::goes))]
+    fn from(found: Found) -> Move {
+        match found {
+            Found::Chosen(a, passed) => Move {
+                phase: Phase::Chosen(a),
+                action: Action::Chose(a, passed),
+            },
+            Found::Nothing(passed) => Move {
+                phase: Phase::Idle,
+                action: Action::Stopped(Stop::Address, passed),
+            },
+        }
     }
 }
 
@@ -59,15 +65,15 @@ pub fn decided(held: bool, facts: Facts, choice: Choice, text: &[u8], name: &mut
     let n = build(choice, name);
     let length = asked(choice, text, name, n).len();
     match choice {
-        Choice::Stop(number) => Move {
+        Choice::Stop(stop) => Move {
             phase: Phase::Idle,
-            action: Action::Stopped(number, 0),
+            action: Action::Stopped(stop, 0),
         },
         Choice::Country(_) => Move {
             phase: Phase::Country(facts),
             action: Action::AskCountry(length),
         },
-        Choice::Text { at, length: _ } => Move {
+        Choice::Text { at, .. } => Move {
             phase: Phase::Name(facts),
             action: Action::AskText(at, length),
         },
@@ -75,29 +81,25 @@ pub fn decided(held: bool, facts: Facts, choice: Choice, text: &[u8], name: &mut
             phase: Phase::Name(facts),
             action: Action::AskBuilt(length),
         },
-        Choice::Address(a) => gateway_found(choose_one(a, facts.version, held)),
+        Choice::Address(a) => Move::from(choose_one(a, facts.version, held)),
     }
 }
 
-// The address answer, told of each address whether it is on hold: the first that is permitted is chosen.
+// The address answer, told of each address whether it is on hold: the first that is permitted is chosen, and only the phase is another.
 pub fn answered(line: Record, time: u64, addresses: &[u8], held: [bool; ENTRIES]) -> Stepped
-    requires { InArrays line }
-    ensures hs_value { (hs : List Hold) → (length addresses.now ≤ address_length * most_entries → HeldAre held addresses.now (held_addresses (only (ends_after time) hs))) → answered_on result time hs ≡ effect (address addresses.now) time (with_holds (line_of line) hs) }
-    ensures in_arrays { InArrays result.line }
+    ensures hs_value { (hs : List Hold) → (length addresses.now ≤ address_length * most_entries → HeldAre held addresses.now (held_addresses (only (ends_after time) hs))) → answered_on (line_of line) result time hs ≡ effect (address addresses.now) time (with_holds (line_of line) hs) }
+    ensures phase_alone { IfOk result (λ d. line_of d.line ≡ in_phase (current time (line_of line)) d.line.phase) }
 {
-    let found = current(line, time);
-    if is_late(time) {
-        return refused(line, 8);
-    }
+    let found = found_at(line, time)?;
     if !addresses_fit(addresses) {
-        return refused(line, 8);
+        return Err(Refusal::Range);
     }
-    let phase = found.phase;
-    let Phase::Name(facts) = phase else {
-        return refused(line, 10);
+    let Phase::Name(facts) = found.phase else {
+        return Err(Refusal::Phase);
     };
-    let moved = gateway_found(choose(addresses, facts.version, held));
-    let next = moved.phase;
-    let action = moved.action;
-    goes(found, next, action)
+    let moved = Move::from(choose(addresses, facts.version, held));
+    Ok(Done {
+        line: found.in_phase(moved.phase),
+        action: moved.action,
+    })
 }

@@ -1,12 +1,14 @@
 -- Zeros at a place of a list: none, and runs that follow one another or overlap.
-use Prim.Native.Nat.{ℕ, ◌+◌, ◌-◌, ◌≤◌}
+use Prim.Native.Nat.{ℕ, ◌+◌, suc, ◌-◌, ◌≤◌, ◌<◌}
 use mathlib.Core.Bool.{Bool, true, false, ◌&&◌, and_assoc}
 use mathlib.Core.List.{List, [], ◌∷◌, ◌++◌}
 use mathlib.Core.Path.{◌≡◌, refl, sym, ap, ap₂, ◌∙◌}
 use native.Mathlib.Nat.{suc_inj}
+use native.Mathlib.Numerals.{add-one}
 use native.Mathlib.Omega.{arith}
 use lib.Dec.{eqb}
-use lib.ListN.{length}
+use lib.ListN.{length, get_or, drop, drop_of_length-le}
+use lib.Seq.{drop-cons}
 use Rattle.octets.specs.Part.{part, zeros, same, zeros_at}
 use Rattle.octets.proofs.Fields.{part_join}
 use Rattle.octets.proofs.Parts.{length_part, length_zeros, zeros_append}
@@ -25,14 +27,22 @@ zeros_join l at m n h =
     ap₂ same (sym (part_join l at m n)) (sym (zeros_append m n))
     ∙ same_append (part l at m) (zeros m) (part l (at + m) n) (zeros n) (length_part l at m h ∙ sym (length_zeros m))
 
+-- octets that are left: none, and one with those behind it
+module _ (l : List ℕ) (i : ℕ) where
+  pub none_left : length l ≤ i → same (drop i l) (zeros (length l - i)) ≡ true
+  unfolding same zeros
+  none_left h =
+      let none : length l - i ≡ 0 = omega arith in
+      rw (drop_of_length-le l h, none)
+
+  pub one_left : i < length l → same (drop i l) (zeros (length l - i)) ≡ eqb (get_or l i 0) 0 && same (drop (i + 1) l) (zeros (length l - (i + 1)))
+  unfolding same zeros
+  one_left h =
+      let more : length l - i ≡ suc (length l - (i + 1)) = omega arith in
+      rw (more, drop-cons l i 0 h, add-one)
+
 -- what stands from a place to another one
 module _ (l : List ℕ) where
-  pub zeros_done : (a b : ℕ) → b ≤ a → zeros_at l a (b - a) ≡ true
-  unfolding zeros_at part zeros same
-  zeros_done a b h =
-      let none : b - a ≡ 0 = omega arith in
-      rw none
-
   -- two runs that follow one another
   pub zeros_between : (a b c : ℕ) → a ≤ b → b ≤ c → b ≤ length l → zeros_at l a (c - a) ≡ zeros_at l a (b - a) && zeros_at l b (c - b)
   zeros_between a b c p q h =

@@ -3,6 +3,8 @@ ghost use Rattle.std.specs.Prelude.{◌≡◌, ◌+◌, ◌^◌, ◌≤◌, ◌<
 ghost use Rattle.octets.specs.Digits.{be, field};
 ghost use Rattle.octets.specs.Part.{Wrote};
 
+use crate::slice::part;
+
 // The highest number of one octet.
 pub const MOST_OCTET: u64 = 255;
 
@@ -14,6 +16,7 @@ pub(crate) fn wide(x: u8) -> u64
 }
 
 // The number that two octets say.
+#[tactic(auto, using(crate::proofs::Words::two_octets))]
 fn two(s: &[u8], at: usize) -> u64
     requires { at + 2 ≤ length s.now }
     ensures { (result ≡ field s.now at 2) × (result < 256 ^ 2) }
@@ -22,6 +25,7 @@ fn two(s: &[u8], at: usize) -> u64
 }
 
 // The number that four octets say; a sum without brackets is compiled to one load.
+#[tactic(auto, using(crate::proofs::Words::four_octets))]
 fn four(s: &[u8], at: usize) -> u64
     requires { at + 4 ≤ length s.now }
     ensures { (result ≡ field s.now at 4) × (result < 256 ^ 4) }
@@ -30,6 +34,7 @@ fn four(s: &[u8], at: usize) -> u64
 }
 
 // The number that eight octets say; a sum without brackets, the last octet first, is compiled to one load.
+#[tactic(auto, using(crate::proofs::Words::eight_octets))]
 fn eight(s: &[u8], at: usize) -> u64
     requires { at + 8 ≤ length s.now }
     ensures { (result ≡ field s.now at 8) × (result < 256 ^ 8) }
@@ -49,33 +54,26 @@ fn by_octets(s: &[u8], at: usize, n: usize) -> u64
     requires { (at + n ≤ length s.now) × (n ≤ 8) }
     ensures { (result ≡ field s.now at n) × (result < 256 ^ n) }
 {
-    let mut x: u64 = 0;
-    let mut i = 0;
-    while i < n {
-        x = x * 256 + wide(s[at + i]);
-        i += 1;
+    let mut x = 0;
+    for octet in part(s, at, n) {
+        x = x * 256 + wide(*octet);
     }
     x
 }
 
 // The number that the n octets from `at` say; the common widths are read without a loop.
+#[tactic(auto, using(crate::proofs::Words::one_octet))]
 pub fn get(s: &[u8], at: usize, n: usize) -> u64
     requires { (at + n ≤ length s.now) × (n ≤ 8) }
     ensures { (result ≡ field s.now at n) × (result < 256 ^ n) }
 {
-    if n == 1 {
-        return wide(s[at]);
+    match n {
+        1 => wide(s[at]),
+        2 => two(s, at),
+        4 => four(s, at),
+        8 => eight(s, at),
+        _ => by_octets(s, at, n),
     }
-    if n == 2 {
-        return two(s, at);
-    }
-    if n == 4 {
-        return four(s, at);
-    }
-    if n == 8 {
-        return eight(s, at);
-    }
-    by_octets(s, at, n)
 }
 
 // Stores the n big-endian octets of x from `at`.
@@ -84,10 +82,8 @@ pub fn put(s: &mut [u8], at: usize, n: usize, x: u64)
     ensures { Wrote s.old at (be n x) s.new }
 {
     let mut rest = x;
-    let mut i = n;
-    while 0 < i {
-        i -= 1;
+    for i in (0..n).rev() {
         s[at + i] = (rest % 256) as u8;
-        rest = rest / 256;
+        rest /= 256;
     }
 }

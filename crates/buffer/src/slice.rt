@@ -8,26 +8,20 @@ ghost use Rattle.octets.specs.Search.{all_of};
 use crate::number::wide;
 
 // Fills a slice with zeros.
+#[tactic(auto, unfolding(octets::specs::Part::zeros))]
 pub fn zero(s: &mut [u8])
     ensures { s.new ≡ zeros (length s.old) }
 {
-    let mut i = 0;
-    while i < s.len() {
-        s[i] = 0;
-        i += 1;
-    }
+    s.fill(0);
 }
 
 // Copies all of src into dst from `at`.
+#[tactic(auto, using(octets::proofs::Patches::part_stored))]
 pub fn copy(src: &[u8], dst: &mut [u8], at: usize)
     requires { at + length src.now ≤ length dst.old }
     ensures { Wrote dst.old at src.now dst.new }
 {
-    let mut i = 0;
-    while i < src.len() {
-        dst[at + i] = src[i];
-        i += 1;
-    }
+    dst[at..at + src.len()].copy_from_slice(src);
 }
 
 // Eight octets as one number, the first of them lowest, and the promise that they are octets; a sum without brackets is compiled to one load.
@@ -50,12 +44,9 @@ fn zeros_by_octets(s: &[u8], at: usize, n: usize) -> bool
     requires { at + n ≤ length s.now }
     ensures { result ≡ zeros_at s.now at n }
 {
-    let end = at + n;
-    let mut bits: u8 = 0;
-    let mut i = at;
-    while i < end {
-        bits = bits | s[i];
-        i += 1;
+    let mut bits = 0;
+    for octet in part(s, at, n) {
+        bits |= *octet;
     }
     bits == 0
 }
@@ -68,17 +59,15 @@ pub fn zeros_at(s: &[u8], at: usize, n: usize) -> bool
     if n < 8 {
         return zeros_by_octets(s, at, n);
     }
-    let last = at + n - 8;
-    let mut bits = word(s, last);
-    let mut i = at;
-    while i < last {
-        bits = bits | word(s, i);
-        i += 8;
+    let mut bits = word(s, at + n - 8);
+    for i in 0..(n - 1) / 8 {
+        bits |= word(s, at + 8 * i);
     }
     bits == 0
 }
 
 // The n octets from `at`, as a part of the lent slice.
+#[tactic(auto, unfolding(octets::specs::Part::part))]
 pub fn part(s: &[u8], at: usize, n: usize) -> &[u8]
     requires { at + n ≤ length s.now }
     ensures { (result.now ≡ part s.now at n) × (length result.now ≡ n) }

@@ -1,2 +1,3 @@
 -- The laws that the proofs of this crate share.
-pub mod Timed
+mod Timed
+mod Unheld

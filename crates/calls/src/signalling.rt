@@ -1,38 +1,39 @@
 // From the chosen address to a live line: IKE and EAP-5G.
 ghost use Rattle.std.specs.Prelude.{[], ◌≡◌, length};
 ghost use Rattle.rules.specs.Answer.{part_named, PartWithin};
-ghost use Rattle.rules.specs.Call.{congestion, eap, timed};
+ghost use Rattle.rules.specs.Call.{Event, congestion, eap, timed};
 ghost use Rattle.rules.specs.Call as Call;
 ghost use Rattle.rules.specs.Run.{run};
-ghost use Rattle.ike.specs.Events.{event_of};
-ghost use Rattle.frame.specs.Returned.{returned};
+ghost use Rattle.frame.specs.Returned.{numbers_in, told};
+ghost use Rattle.calls.specs.Steps.{ChangesPhase, IsStep};
 
-use frame::{enter, refuse};
-use ike::event::{IkeEvent, step_of};
-use records::unlisted_at;
+use buffer::slice::zero;
+use frame::enter;
+use record::Record;
+use records::{keep_hold_at, keep_standing_at, unlisted_at};
+use refusal::Refusal;
 use response::REPLY_ROOM;
+use rules::Action;
 use session::eap_packet;
-use settling::{first_end, settle_hold, settle_standing, went_of};
+use standing::standing_of;
+use step::Stepped;
 
-// A call whose event comes with numbers alone and changes only the phase of the line.
-pub fn on_line(
+// A call whose event comes with numbers alone and changes only the phase of the line, by the step of the event.
+pub fn on_line<S: FnOnce(Record, u64) -> Stepped>(
     table: &mut [u8],
     tenant: u64,
     line: u64,
     time: u64,
-    event: IkeEvent,
-    answer: &mut [u64; 12],
-) -> u64
-    ensures { returned result answer.new [] [] table.new ≡ run (timed tenant line time (event_of event)) table.old }
+    step: S,
+) -> Result<Action, Refusal>
+    requires { S.IsAlwaysCallable step }
+    ensures { (e : Event) → ChangesPhase e → IsStep (S.post step) e time → told result [] [] table.new ≡ run (timed tenant line time e) table.old }
 {
-    let entered = enter(table, tenant, line, time, false);
-    if entered.refusal != 0 {
-        *answer = [0; 12];
-        return entered.refusal;
-    }
+    let entered = enter(table, tenant, line, time, false)?;
     let found = unlisted_at(table, entered.at);
-    let stepped = step_of(found, time, event);
-    settle_standing(table, entered, time, went_of(stepped), answer)
+    let done = step(found, time)?;
+    keep_standing_at(table, entered.at, time, standing_of(done.line.phase));
+    Ok(done.action)
 }
 
 // Takes a congestion notify with its back-off timer.
@@ -43,28 +44,15 @@ pub fn congested(
     time: u64,
     authenticated: u64,
     timer: u64,
-    answer: &mut [u64; 12],
-) -> u64
-    ensures { returned result answer.new [] [] table.new ≡ run (timed tenant line time (congestion authenticated timer)) table.old }
+) -> Result<Action, Refusal>
+    ensures { told result [] [] table.new ≡ run (timed tenant line time (congestion authenticated timer)) table.old }
 {
-    let entered = enter(table, tenant, line, time, false);
-    if entered.refusal != 0 {
-        *answer = [0; 12];
-        return entered.refusal;
-    }
+    let entered = enter(table, tenant, line, time, false)?;
     let found = unlisted_at(table, entered.at);
-    let stepped = lent::congested(found, time, authenticated, timer);
-    let line = stepped.line;
-    let holds = line.holds;
-    settle_hold(
-        table,
-        entered,
-        time,
-        went_of(stepped),
-        first_end(holds),
-        line.hold_count,
-        answer,
-    )
+    let done = lent::congested(found, time, authenticated, timer)?;
+    let hold = done.line.holds.as_slice().first();
+    keep_hold_at(table, entered.at, time, hold.map(|hold| hold.end));
+    Ok(done.action)
 }
 
 // Takes an EAP packet: Start, a NAS request or Success.
@@ -74,19 +62,14 @@ pub fn eap(
     line: u64,
     time: u64,
     packet: &[u8],
-    answer: &mut [u64; 12],
-) -> u64
-    ensures table_after { returned result answer.new (part_named answer.new [] [] packet.now) [] table.new ≡ run (timed tenant line time (eap packet.now)) table.old }
-    ensures part_within { PartWithin answer.new [] [] packet.now }
+) -> Result<Action, Refusal>
+    ensures table_after { told result (part_named (numbers_in result) [] [] packet.now) [] table.new ≡ run (timed tenant line time (eap packet.now)) table.old }
+    ensures part_within { PartWithin (numbers_in result) [] [] packet.now }
 {
-    let entered = enter(table, tenant, line, time, false);
-    if entered.refusal != 0 {
-        *answer = [0; 12];
-        return entered.refusal;
-    }
-    let found = unlisted_at(table, entered.at);
-    let stepped = eap_packet(found, time, packet);
-    settle_standing(table, entered, time, went_of(stepped), answer)
+    let entered = enter(table, tenant, line, time, false)?;
+    let done = eap_packet(unlisted_at(table, entered.at), time, packet)?;
+    keep_standing_at(table, entered.at, time, standing_of(done.line.phase));
+    Ok(done.action)
 }
 
 // Writes the response that is owed, with AN-parameters and NAS.
@@ -98,15 +81,18 @@ pub fn reply(
     parameters: &[u8],
     nas: &[u8],
     reply: &mut [u8],
-    answer: &mut [u64; 12],
-) -> u64
-    ensures { returned result answer.new [] reply.new table.new ≡ run (timed tenant line time (Call.reply parameters.now nas.now (length reply.old))) table.old }
+) -> Result<Action, Refusal>
+    ensures { told result [] reply.new table.new ≡ run (timed tenant line time (Call.reply parameters.now nas.now (length reply.old))) table.old }
 {
-    let entered = enter(table, tenant, line, time, reply.len() < REPLY_ROOM);
-    if entered.refusal != 0 {
-        return refuse(entered.refusal, reply, answer);
-    }
-    let found = unlisted_at(table, entered.at);
-    let stepped = session::reply(found, time, parameters, nas, reply);
-    settle_standing(table, entered, time, went_of(stepped), answer)
+    let entered = match enter(table, tenant, line, time, reply.len() < REPLY_ROOM) {
+        Ok(entered) => entered,
+        Err(refusal) => {
+            // The step of an accepted entry clears the buffer itself.
+            zero(reply);
+            return Err(refusal);
+        }
+    };
+    let done = session::reply(unlisted_at(table, entered.at), time, parameters, nas, reply)?;
+    keep_standing_at(table, entered.at, time, standing_of(done.line.phase));
+    Ok(done.action)
 }

@@ -1,45 +1,42 @@
 // The tunnels of a live line.
 ghost use Rattle.std.specs.Prelude.{[], ◌≡◌};
-ghost use Rattle.rules.specs.Call.{child_made, timed};
+ghost use Rattle.rules.specs.Call.{Event, child_made, timed};
 ghost use Rattle.rules.specs.Run.{run};
-ghost use Rattle.tunnel.specs.Events.{tunnel_event_of};
-ghost use Rattle.frame.specs.Returned.{returned};
+ghost use Rattle.frame.specs.Returned.{told};
+ghost use Rattle.calls.specs.Steps.{ChangesChildren, IsStep};
 
 use children::Child;
 use frame::enter;
-use records::{child_count_at, has_spi_at, unheld_at, unlisted_at};
-use settling::{settle_child, settle_tunnels, went_of};
-use tunnel::{TunnelEvent, made, tunnel_step_of};
+use record::Record;
+use records::{child_count_at, has_spi_at, keep_child_at, keep_tunnels_at, unheld_at, unlisted_at};
+use refusal::Refusal;
+use rules::Action;
+use standing::standing_of;
+use step::Stepped;
+use tunnel::made;
 
-// A call whose event takes children of a live line away.
-pub fn on_tunnel(
+// A call whose event takes children of a live line away, by the step of the event.
+pub fn on_tunnel<S: FnOnce(Record, u64) -> Stepped>(
     table: &mut [u8],
     tenant: u64,
     line: u64,
     time: u64,
-    event: TunnelEvent,
-    answer: &mut [u64; 12],
-) -> u64
-    ensures { returned result answer.new [] [] table.new ≡ run (timed tenant line time (tunnel_event_of event)) table.old }
+    step: S,
+) -> Result<Action, Refusal>
+    requires { S.IsAlwaysCallable step }
+    ensures { (e : Event) → ChangesChildren e → IsStep (S.post step) e time → told result [] [] table.new ≡ run (timed tenant line time e) table.old }
 {
-    let entered = enter(table, tenant, line, time, false);
-    if entered.refusal != 0 {
-        *answer = [0; 12];
-        return entered.refusal;
-    }
-    let found = unheld_at(table, entered.at);
-    let stepped = tunnel_step_of(found, time, event);
-    let line = stepped.line;
-    let children = line.children;
-    settle_tunnels(
+    let entered = enter(table, tenant, line, time, false)?;
+    let done = step(unheld_at(table, entered.at), time)?;
+    let standing = standing_of(done.line.phase);
+    keep_tunnels_at(
         table,
-        entered,
+        entered.at,
         time,
-        went_of(stepped),
-        children,
-        line.child_count,
-        answer,
-    )
+        standing,
+        done.line.children.as_slice(),
+    );
+    Ok(done.action)
 }
 
 // Takes a child made on a live line.
@@ -50,19 +47,15 @@ pub fn child_made(
     time: u64,
     spi: u64,
     session: u64,
-    answer: &mut [u64; 12],
-) -> u64
-    ensures { returned result answer.new [] [] table.new ≡ run (timed tenant line time (child_made spi session)) table.old }
+) -> Result<Action, Refusal>
+    ensures { told result [] [] table.new ≡ run (timed tenant line time (child_made spi session)) table.old }
 {
-    let entered = enter(table, tenant, line, time, false);
-    if entered.refusal != 0 {
-        *answer = [0; 12];
-        return entered.refusal;
-    }
+    let entered = enter(table, tenant, line, time, false)?;
     let found = unlisted_at(table, entered.at);
     let taken = has_spi_at(table, entered.at, spi);
     let n = child_count_at(table, entered.at);
     let child = Child { spi, session };
-    let stepped = made(found, time, child, taken, n);
-    settle_child(table, entered, time, went_of(stepped), child, answer)
+    let done = made(found, time, child, taken, n)?;
+    keep_child_at(table, entered.at, time, standing_of(done.line.phase), child);
+    Ok(done.action)
 }

@@ -1,13 +1,15 @@
 // Child associations read from their octets, written and tested there.
 #![tactic(auto)]
 
-ghost use Rattle.std.specs.Prelude.{◌≡◌, ◌&&◌, ℕ, ◌+◌, ◌*◌, ◌≤◌, ◌<◌, drop, get_or, length, take};
+ghost use Rattle.std.specs.Prelude.{◌≡◌, ◌&&◌, ℕ, ◌+◌, ◌*◌, ◌≤◌, ◌<◌, get_or, length};
 ghost use Rattle.octets.specs.Digits.{field};
 ghost use Rattle.octets.specs.Part.{Wrote};
 ghost use Rattle.octets.specs.Row.{joined, only};
 ghost use Rattle.octets.specs.Search.{all_of};
 ghost use Rattle.children.specs.Children.{child_fits, child_from, child_length, child_octets, children_from, children_room, children_written, has_spi, is_other, most_children, spis_differ};
+ghost use Rattle.children.specs.Listed.{children_of};
 
+use bounded::Bounded;
 use buffer::number::{get, put};
 use buffer::slice::zeros_at;
 use children::{CHILD, CHILDREN, CHILDREN_ROOM, Child, Children};
@@ -17,6 +19,9 @@ use differ::{all_differ, pick};
 const LEAST_SPI: u64 = 256;
 
 const MOST_SESSION: u64 = 15;
+
+// What stands in a free place of a list of children.
+const NO_CHILD: Child = Child { spi: 0, session: 0 };
 
 // The child at a place.
 pub fn read_child(b: &[u8], at: usize) -> Child
@@ -39,47 +44,28 @@ pub fn put_child(b: &mut [u8], at: usize, child: Child)
 }
 
 // The first n children of those that begin at a place.
-pub fn read_children(b: &[u8], at: usize, n: usize) -> [Child; CHILDREN]
+pub fn read_children(b: &[u8], at: usize, n: usize) -> Children
     requires { (at + children_room ≤ length b.now) × (n ≤ most_children) }
-    ensures { take n result ≡ children_from b.now at n }
+    ensures { children_of result ≡ children_from b.now at n }
 {
-    let mut list = [Child { spi: 0, session: 0 }; CHILDREN];
-    let mut i = 0;
-    while i < n {
-        list[i] = read_child(b, at + CHILD * i);
-        i += 1;
-    }
-    list
+    Bounded::from_fn(n, NO_CHILD, |i| read_child(b, at + CHILD * i))
 }
 
-// Stores the first n children of a list from a place on.
-pub fn put_children(b: &mut [u8], at: usize, list: [Child; CHILDREN], n: usize)
-    requires { (at + children_room ≤ length b.old) × (n ≤ most_children) }
-    ensures wrote { Wrote b.old at (joined child_octets (take n list)) b.new }
-    ensures list_len { length (take n list) ≡ n }
+// Stores children from a place on.
+pub fn put_children(b: &mut [u8], at: usize, children: &[Child])
+    requires { (at + children_room ≤ length b.old) × (length children.now ≤ most_children) }
+    ensures { Wrote b.old at (joined child_octets children.now) b.new }
 {
-    let mut i = 0;
-    while i < n {
-        let child = list[i];
-        put_child(b, at + CHILD * i, child);
-        i += 1;
+    for i in 0..children.len() {
+        put_child(b, at + CHILD * i, children[i]);
     }
 }
 
-// Whether an SPI stands among the first n children, from a place on.
-pub fn has_spi(list: [Child; CHILDREN], from: usize, n: usize, spi: u64) -> bool
-    requires { (from ≤ n) × (n ≤ most_children) }
-    ensures { result ≡ has_spi spi (drop from (take n list)) }
+// Whether an SPI is that of one of the children.
+pub fn has_spi(children: &[Child], spi: u64) -> bool
+    ensures { result ≡ has_spi spi children.now }
 {
-    let mut i = from;
-    while i < n {
-        let child = list[i];
-        if spi == child.spi {
-            return true;
-        }
-        i += 1;
-    }
-    false
+    children.iter().any(|child| spi == child.spi)
 }
 
 // Whether an SPI is that of one of the n children at a place.
@@ -87,29 +73,22 @@ pub fn has_spi_at(b: &[u8], at: usize, n: usize, spi: u64) -> bool
     requires { (at + children_room ≤ length b.now) × (n ≤ most_children) }
     ensures { result ≡ has_spi spi (children_from b.now at n) }
 {
-    let mut i = 0;
-    while i < n {
-        let child = read_child(b, at + CHILD * i);
-        if spi == child.spi {
+    for i in 0..n {
+        if spi == read_child(b, at + CHILD * i).spi {
             return true;
         }
-        i += 1;
     }
     false
 }
 
-// Whether the first n children have different SPIs.
-fn are_different(list: [Child; CHILDREN], n: usize) -> bool
-    requires { n ≤ most_children }
-    ensures { result ≡ spis_differ (take n list) }
+// Whether the children have different SPIs.
+fn are_different(children: &[Child]) -> bool
+    ensures { result ≡ spis_differ children.now }
 {
-    let mut i = 0;
-    while i < n {
-        let child = list[i];
-        if has_spi(list, i + 1, n, child.spi) {
+    for i in 0..children.len() {
+        if has_spi(&children[i + 1..], children[i].spi) {
             return false;
         }
-        i += 1;
     }
     true
 }
@@ -126,13 +105,10 @@ fn fit_at(b: &[u8], at: usize, n: usize) -> bool
     requires { (at + children_room ≤ length b.now) × (n ≤ most_children) }
     ensures { result ≡ all_of child_fits (children_from b.now at n) }
 {
-    let mut i = 0;
-    while i < n {
-        let child = read_child(b, at + CHILD * i);
-        if !child_fits(child) {
+    for i in 0..n {
+        if !child_fits(read_child(b, at + CHILD * i)) {
             return false;
         }
-        i += 1;
     }
     true
 }
@@ -143,10 +119,8 @@ fn spis(b: &[u8], at: usize, n: usize) -> [u64; CHILDREN]
     ensures { (i : ℕ) → i < n → get_or result i 0 ≡ field b.now (at + child_length * i) 4 }
 {
     let mut w = [0u64; CHILDREN];
-    let mut i = 0;
-    while i < CHILDREN {
+    for i in 0..CHILDREN {
         w[i] = pick(i < n, get(b, at + CHILD * i, 4), i as u64);
-        i += 1;
     }
     w
 }
@@ -162,7 +136,7 @@ fn differ_at(b: &[u8], at: usize, n: usize) -> bool
     if all_differ(spis(b, at, n)) {
         return true;
     }
-    are_different(read_children(b, at, n), n)
+    are_different(read_children(b, at, n).as_slice())
 }
 
 // Whether at most 8 children stand at a place, with numbers in their ranges and different SPIs, and zeros behind them.
@@ -187,22 +161,10 @@ pub fn are_sound(b: &[u8], at: usize, n: usize) -> bool
     differ_at(b, at, n)
 }
 
-// The first n children without those of an SPI, in their order.
-pub fn without(list: [Child; CHILDREN], n: usize, spi: u64) -> Children
-    requires { n ≤ most_children }
-    ensures list_value { take result.count result.list ≡ only (is_other spi) (take n list) }
-    ensures count_le_n { result.count ≤ n }
+// The children without those of an SPI, in their order.
+pub fn without(children: &[Child], spi: u64) -> Children
+    requires { length children.now ≤ most_children }
+    ensures { children_of result ≡ only (is_other spi) children.now }
 {
-    let mut kept = list;
-    let mut count = 0;
-    let mut i = 0;
-    while i < n {
-        let child = kept[i];
-        if spi != child.spi {
-            kept[count] = child;
-            count += 1;
-        }
-        i += 1;
-    }
-    Children { list: kept, count }
+    Bounded::only(children, NO_CHILD, |child| spi != child.spi)
 }

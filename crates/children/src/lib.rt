@@ -3,8 +3,10 @@
 
 ghost use Rattle.children.specs.Laws.{Laws};
 
+use bounded::Bounded;
+
 // A child association.
-#[derive(Clone, Copy)]
+#[derive(Clone, Copy, PartialEq, Eq)]
 pub struct Child {
     pub spi: u64,
     pub session: u64,
@@ -19,12 +21,8 @@ pub const CHILD: usize = 5;
 // The octets of all the children that a line has room for.
 pub const CHILDREN_ROOM: usize = CHILDREN * CHILD;
 
-// The children of a line: those below the count.
-#[derive(Clone, Copy)]
-pub struct Children {
-    pub list: [Child; CHILDREN],
-    pub count: usize,
-}
+// The children of a line.
+pub type Children = Bounded<Child, CHILDREN>;
 
 // Does nothing; its promise is that writing and reading undo each other.
 pub fn laws()

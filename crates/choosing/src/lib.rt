@@ -2,194 +2,139 @@
 #![tactic(auto)]
 
 ghost use Rattle.std.specs.Prelude.{◌≡◌};
-ghost use Rattle.network.specs.Plmn.{plmn_option};
-ghost use Rattle.config.specs.Settings.{Counted, settings_in};
+ghost use Rattle.config.specs.Settings.{settings_of};
 ghost use Rattle.lists.specs.Lists.{networks_in};
 ghost use Rattle.selection.specs.Selection.{abroad, country_reply, ask_or, at_home, counting, country, direct, home_abroad, if_listed, one_or_more, start};
 ghost use Rattle.preference.specs.Preference.{ranked};
 
-use config::{Config, Node};
-use network::{MaybePlmn, Plmn, same_plmn};
+use config::{Configuration, Node};
+use lists::NETWORK;
+use network::Plmn;
 use place::{Facts, Place};
 use ranking::{is_barred, is_listed, is_preferred, is_provisioned, ranked, unranked};
-use selection::Choice;
+use selection::{Choice, Stop};
 
 // Whether a place is abroad with the home MCC.
-pub fn is_home_abroad(config: Config, plmns: &[u64], bars: &[u64], place: Place) -> bool
-    ensures { result ≡ home_abroad (settings_in plmns.now bars.now config) place }
+pub fn is_home_abroad(configuration: Configuration, place: Place) -> bool
+    ensures { result ≡ home_abroad (settings_of configuration.entry) place }
 {
     match place {
-        Place::Unknown => false,
-        Place::Home => false,
-        Place::Abroad(mcc) => mcc == config.home.mcc,
+        Place::Abroad(mcc) => mcc == configuration.home.mcc,
+        _ => false,
     }
 }
 
 // The registered PLMN, where it is not the home PLMN.
-fn counting(config: Config, plmns: &[u64], bars: &[u64], registered: MaybePlmn) -> MaybePlmn
-    ensures { plmn_option result ≡ counting (settings_in plmns.now bars.now config) (plmn_option registered) }
+fn counting(configuration: Configuration, registered: Option<Plmn>) -> Option<Plmn>
+    ensures { result ≡ counting (settings_of configuration.entry) registered }
 {
-    match registered {
-        MaybePlmn::Is(p) => {
-            if same_plmn(p, config.home) {
-                MaybePlmn::None
-            } else {
-                MaybePlmn::Is(p)
-            }
-        }
-        MaybePlmn::None => MaybePlmn::None,
-    }
+    registered.filter(|p| *p != configuration.home)
 }
 
 // S2: the `node` record decides, or the home PLMN.
-fn at_home(config: Config, plmns: &[u64], bars: &[u64]) -> Choice
-    ensures { result ≡ at_home (settings_in plmns.now bars.now config) }
+fn at_home(configuration: Configuration) -> Choice
+    ensures { result ≡ at_home (settings_of configuration.entry) }
 {
-    let node = config.node;
-    let home = config.home;
-    match node {
-        Node::None => Choice::Network(home),
-        Node::Name { at, length } => Choice::Text { at, length },
-        Node::Address(a) => Choice::Address(a),
+    match configuration.node {
+        Some(Node::Address(a)) => Choice::Address(a),
+        Some(Node::Name { at, length }) => Choice::Text { at, length },
+        None => Choice::Network(configuration.home),
     }
 }
 
 // S3: whether the name of a registered PLMN is asked at once.
-fn is_direct(config: Config, plmns: &[u64], bars: &[u64], p: Plmn) -> bool
-    requires { Counted plmns.now bars.now config }
-    ensures { result ≡ direct (settings_in plmns.now bars.now config) p }
+fn is_direct(configuration: Configuration, p: Plmn) -> bool
+    ensures { result ≡ direct (settings_of configuration.entry) p }
 {
-    if !is_provisioned(config, plmns, bars) {
-        return false;
-    }
-    if is_barred(config, plmns, bars, p) {
-        return false;
-    }
-    is_preferred(config, plmns, bars, p)
+    is_provisioned(configuration) && !is_barred(configuration, p) && is_preferred(configuration, p)
 }
 
 // S3, and S4 up to its question.
-fn abroad(config: Config, plmns: &[u64], bars: &[u64], registered: MaybePlmn, mcc: u64) -> Choice
-    requires { Counted plmns.now bars.now config }
-    ensures { result ≡ abroad (settings_in plmns.now bars.now config) (plmn_option registered) mcc }
+fn abroad(configuration: Configuration, registered: Option<Plmn>, mcc: u64) -> Choice
+    ensures { result ≡ abroad (settings_of configuration.entry) registered mcc }
 {
     match registered {
-        MaybePlmn::Is(p) => {
-            if is_direct(config, plmns, bars, p) {
-                Choice::Network(p)
-            } else {
-                Choice::Country(mcc)
-            }
-        }
-        MaybePlmn::None => Choice::Country(mcc),
+        Some(p) if is_direct(configuration, p) => Choice::Network(p),
+        _ => Choice::Country(mcc),
     }
 }
 
 // What start comes to.
-pub fn start(config: Config, plmns: &[u64], bars: &[u64], facts: Facts) -> Choice
-    requires { Counted plmns.now bars.now config }
-    ensures { result ≡ start (settings_in plmns.now bars.now config) facts }
+pub fn start(configuration: Configuration, facts: Facts) -> Choice
+    ensures { result ≡ start (settings_of configuration.entry) facts }
 {
-    let place = facts.place;
-    let registered = facts.registered;
-    match place {
-        Place::Unknown => Choice::Stop(1),
-        Place::Home => at_home(config, plmns, bars),
-        Place::Abroad(mcc) => abroad(
-            config,
-            plmns,
-            bars,
-            counting(config, plmns, bars, registered),
-            mcc,
-        ),
+    match facts.place {
+        Place::Unknown => Choice::Stop(Stop::Place),
+        Place::Home => at_home(configuration),
+        Place::Abroad(mcc) => {
+            abroad(
+                configuration,
+                counting(configuration, facts.registered),
+                mcc,
+            )
+        }
     }
 }
 
 // The registered PLMN, where it is listed and not barred.
 fn if_listed(
-    config: Config,
-    plmns: &[u64],
-    bars: &[u64],
-    registered: MaybePlmn,
+    configuration: Configuration,
+    registered: Option<Plmn>,
     networks: &[u8],
-) -> MaybePlmn
-    requires { Counted plmns.now bars.now config }
-    ensures { plmn_option result ≡ if_listed (settings_in plmns.now bars.now config) (plmn_option registered) (networks_in networks.now) }
+) -> Option<Plmn>
+    ensures { result ≡ if_listed (settings_of configuration.entry) registered (networks_in networks.now) }
 {
-    let MaybePlmn::Is(plmn) = registered else {
-        return MaybePlmn::None;
-    };
-    if !is_listed(networks, plmn) {
-        return MaybePlmn::None;
-    }
-    if is_barred(config, plmns, bars, plmn) {
-        return MaybePlmn::None;
-    }
-    MaybePlmn::Is(plmn)
+    let p = registered?;
+    let counts = is_listed(networks, p) && !is_barred(configuration, p);
+    counts.then_some(p)
 }
 
 // The name of a network is asked, where there is one.
-fn ask_or(network: MaybePlmn, other: Choice) -> Choice
-    ensures { result ≡ ask_or (plmn_option network) other }
+fn ask_or(network: Option<Plmn>, other: Choice) -> Choice
+    ensures { result ≡ ask_or network other }
 {
     match network {
-        MaybePlmn::Is(p) => Choice::Network(p),
-        MaybePlmn::None => other,
+        Some(p) => Choice::Network(p),
+        None => other,
     }
 }
 
 // S4 where one or more networks are listed.
-fn one_or_more(config: Config, plmns: &[u64], bars: &[u64], facts: Facts, networks: &[u8]) -> Choice
-    requires { Counted plmns.now bars.now config }
-    ensures { result ≡ one_or_more (settings_in plmns.now bars.now config) facts (networks_in networks.now) }
+fn one_or_more(configuration: Configuration, facts: Facts, networks: &[u8]) -> Choice
+    ensures { result ≡ one_or_more (settings_of configuration.entry) facts (networks_in networks.now) }
 {
-    let place = facts.place;
-    let registered = facts.registered;
-    let listed = if_listed(
-        config,
-        plmns,
-        bars,
-        counting(config, plmns, bars, registered),
-        networks,
-    );
-    if let MaybePlmn::Is(p) = listed {
+    let registered = counting(configuration, facts.registered);
+    if let Some(p) = if_listed(configuration, registered, networks) {
         return Choice::Network(p);
     }
-    if let MaybePlmn::Is(p) = ranked(config, plmns, bars, networks, place) {
+    if let Some(p) = ranked(configuration, networks, facts.place) {
         return Choice::Network(p);
     }
-    ask_or(unranked(config, plmns, bars, networks), Choice::Stop(3))
+    ask_or(
+        unranked(configuration, networks),
+        Choice::Stop(Stop::Barred),
+    )
 }
 
 // S4 where no network is listed.
-fn none_listed(config: Config, plmns: &[u64], bars: &[u64], place: Place, networks: &[u8]) -> Choice
-    requires { Counted plmns.now bars.now config }
-    ensures { result ≡ ask_or (ranked (settings_in plmns.now bars.now config) (networks_in networks.now) place) (at_home (settings_in plmns.now bars.now config)) }
+fn none_listed(configuration: Configuration, place: Place, networks: &[u8]) -> Choice
+    ensures { result ≡ ask_or (ranked (settings_of configuration.entry) (networks_in networks.now) place) (at_home (settings_of configuration.entry)) }
 {
     ask_or(
-        ranked(config, plmns, bars, networks, place),
-        at_home(config, plmns, bars),
+        ranked(configuration, networks, place),
+        at_home(configuration),
     )
 }
 
 // What the country answer comes to.
-pub fn country(
-    config: Config,
-    plmns: &[u64],
-    bars: &[u64],
-    facts: Facts,
-    replied: bool,
-    networks: &[u8],
-) -> Choice
-    requires { Counted plmns.now bars.now config }
-    ensures { result ≡ country (settings_in plmns.now bars.now config) facts (country_reply replied (networks_in networks.now)) }
+pub fn country(configuration: Configuration, facts: Facts, replied: bool, networks: &[u8]) -> Choice
+    ensures { result ≡ country (settings_of configuration.entry) facts (country_reply replied (networks_in networks.now)) }
 {
     if !replied {
-        return Choice::Stop(2);
+        return Choice::Stop(Stop::NoReply);
     }
-    if networks.len() < 4 {
-        let place = facts.place;
-        return none_listed(config, plmns, bars, place, networks);
+    if networks.len() < NETWORK {
+        return none_listed(configuration, facts.place, networks);
     }
-    one_or_more(config, plmns, bars, facts, networks)
+    one_or_more(configuration, facts, networks)
 }

@@ -2,10 +2,8 @@
 use Rattle.std.specs.Prelude.{ℕ, ◌+◌, ◌-◌, List, [], ◌∷◌, length, drop}
 use Rattle.octets.specs.Part.{octet_is}
 use Rattle.octets.specs.Search.{least}
-use Rattle.entry.specs.Entry.{line_entry}
+use Rattle.entry.specs.Entry.{line_entry, Entry, Bad}
 use Rattle.entry.specs.Pieces.{newline_code, pieces}
-use Rattle.entry.specs.declared.Entry.{Entry}
-use Rattle.entry.specs.declared.Entry.TheVariants.{Bad}
 
 -- what stands behind the last newline: nothing, or a line that no newline ends, which is no entry
 unfoldable pub last_entry : List ℕ → List Entry

@@ -12,10 +12,7 @@ const PLACES: usize = 8;
 pub fn pick(b: bool, x: u64, y: u64) -> u64
     ensures { result ≡ cond b x y }
 {
-    if b {
-        return x;
-    }
-    y
+    if b { x } else { y }
 }
 
 // The numbers twice over, so that each place has all the others behind it.
@@ -34,10 +31,8 @@ fn differ_on(v: [u64; 2 * PLACES], d: usize) -> bool
     ensures { result ≡ all places (differs_on v d) }
 {
     let mut differ = true;
-    let mut i = 0;
-    while i < PLACES {
-        differ = differ & (v[i] != v[i + d]);
-        i += 1;
+    for i in 0..PLACES {
+        differ &= v[i] != v[i + d];
     }
     differ
 }

@@ -1,12 +1,12 @@
 -- What the tests of a packet's first octets come to.
-use Prim.Native.Nat.{ℕ, ◌+◌, ◌*◌, ◌^◌, ◌≤◌, ◌<◌}
-use mathlib.Core.Bool.{true, false, ◌&&◌}
+use Prim.Native.Nat.{ℕ, ◌+◌, ◌*◌, ◌^◌, ◌≤◌}
+use mathlib.Core.Bool.{true, ◌&&◌}
 use mathlib.Core.List.{List, [], ◌∷◌}
 use mathlib.Core.Path.{◌≡◌, refl, sym, ap, ap₂, ◌∙◌}
 use native.Mathlib.Omega.{arith}
 use lib.Dec.{leb, ltb, eqb}
 use lib.ListN.{length}
-use borrow.Author.Tests.{le-leb, lt-leb, leb-true, ltb-true, eq-eqb, eqb-true, ne_eqb}
+use borrow.Author.Tests.{le-leb, leb-true, ltb-true, eq-eqb, eqb-true, ne_eqb}
 use Rattle.octets.specs.Digits.{be, digits, field, low, number, number_from}
 use Rattle.octets.specs.Laws.{below}
 use Rattle.octets.specs.Part.{part}
@@ -58,16 +58,7 @@ low_same (d ∷ ds) (x ∷ es) size a b e =
     (omega (arith, e, d-short, x-short)))
 
 module _ (l : List ℕ) where
-  -- fewer than 14 octets
-  pub short : length l < 14 → is_expanded l ≡ false
-  unfolding is_expanded
-  short h = simp (lt-leb 14 (length l) h)
-
   module _ (enough : 14 ≤ length l) where
-    pub wrong_length : (length_field l ≡ length l → ⊥) → is_expanded l ≡ false
-    unfolding is_expanded
-    wrong_length h = simp (le-leb 14 (length l) enough, ne_eqb (length_field l) (length l) h)
-
     module _ (whole : length_field l ≡ length l) where
       pub by_vendor_type : type_field l ≡ 254 → vendor l ≡ 10415 → is_expanded l ≡ eqb (vendor_type l) 3
       unfolding is_expanded
@@ -91,10 +82,10 @@ module _ (l : List ℕ) where
             (sym (field_part l 4 8 1 3 (omega arith)) ∙ ap (λ (k : List ℕ). field k 1 3) e)
             ∙ eq-eqb _ _ (sym (field_part l 4 8 4 4 (omega arith)) ∙ ap (λ (k : List ℕ). field k 4 4) e)
 
-        pub by_word : (w : ℕ) → w ≡ low (part l 4 8) → eqb w 216172785052418302 ≡ is_expanded l
+        pub by_word : (w : ℕ) → w ≡ low (part l 4 8) → eqb w 0x0300_0000_AF28_00FE ≡ is_expanded l
         unfolding low all_of below
         by_word w is =
-            either w 216172785052418302
+            either w 0x0300_0000_AF28_00FE
             (λ e. eq-eqb _ _ e ∙ sym (typed_is (low_same (part l 4 8) typed (length_part l 4 8 (omega (arith, enough))) octets refl (sym is ∙ e))))
             (λ h. ne_eqb _ _ h ∙ sym (never_passes (is_expanded l) (λ e. h (is ∙ ap low (are_typed (expanded_facts l e))))))
 

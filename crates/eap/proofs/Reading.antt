@@ -4,29 +4,29 @@ use mathlib.Core.Bool.{Bool, true, false, cond, ◌&&◌}
 use mathlib.Core.List.{List}
 use mathlib.Core.Path.{◌≡◌, refl}
 use native.Mathlib.Omega.{arith}
+use Rattle.std.specs.Prelude.{None, Some}
 use lib.Dec.{leb, eqb}
 use lib.ListN.{length}
-use borrow.Author.Tests.{leb-true, eqb-true, ne_eqb}
+use borrow.Author.Tests.{leb-true, eqb-true}
 use Rattle.octets.specs.Digits.{field}
 use Rattle.octets.specs.Part.{part}
 use Rattle.octets.proofs.Search.{and_left, and_right}
 use Rattle.parameters.specs.Parameters.{well_formed}
-use Rattle.eap.specs.Packet.{code, identifier, length_field, message, fits, is_expanded, is_message, is_nas, is_parameters, is_success, is_nas_request, is_nas_response, nas_place, read_packet}
-use Rattle.eap.specs.declared.Packet.TheVariants.{Start, NasRequest, Success, NasResponse, Stop, Other}
-use Rattle.eap.specs.Branch.{response_of}
+use Rattle.eap.specs.Packet.{code, identifier, message, fits, is_expanded, is_message, is_nas, is_parameters, is_success, is_nas_request, is_nas_response, nas_place, read_packet}
+use Rattle.eap.specs.declared.Packet.TheVariants.{Start, NasRequest, Success, NasResponse, Stop}
 use Rattle.eap.proofs.Blocks.{fits_within}
-use Rattle.eap.proofs.Headers.{Expanded, expanded_facts, nas_response}
+use Rattle.eap.proofs.Headers.{Expanded, expanded_facts}
 
 module _ (l : List ℕ) where
   -- a packet read as a NAS request is one, and its fields are those of the packet
-  pub request_read : (i at n : ℕ) → NasRequest i at n ≡ read_packet l → (is_nas_request l ≡ true) × (at ≡ 16) × (n ≡ field l 14 2)
+  pub request_read : (i at n : ℕ) → Some (NasRequest i at n) ≡ read_packet l → (is_nas_request l ≡ true) × (at ≡ 16) × (n ≡ field l 14 2)
   unfolding read_packet
   request_read i at n e = go (is_success l) (is_message 1 1 l) (is_nas_request l) (is_nas_response l) (is_message 2 4 l) e
     where
       go : (a b c d f : Bool)
-          → NasRequest i at n
-          ≡ cond a (Success (identifier l)) (cond b (Start (identifier l)) (cond c (NasRequest (identifier l) 16 (field l 14 2))
-          (cond d (NasResponse (identifier l) 16 (field l 14 2) (nas_place l + 2) (field l (nas_place l) 2)) (cond f (Stop (identifier l)) Other))))
+          → Some (NasRequest i at n)
+          ≡ cond a (Some (Success (identifier l))) (cond b (Some (Start (identifier l))) (cond c (Some (NasRequest (identifier l) 16 (field l 14 2)))
+          (cond d (Some (NasResponse (identifier l) 16 (field l 14 2) (nas_place l + 2) (field l (nas_place l) 2))) (cond f (Some (Stop (identifier l))) None))))
           → (c ≡ true) × (at ≡ 16) × (n ≡ field l 14 2)
       go true b c d f e = (cc, cc, cc)
       go false true c d f e = (cc, cc, cc)
@@ -36,15 +36,15 @@ module _ (l : List ℕ) where
       go false false false false false e = (cc, cc, cc)
 
   -- a packet read as a NAS response is one, and its fields are those of the packet
-  pub response_read : (i p m at n : ℕ) → NasResponse i p m at n ≡ read_packet l
+  pub response_read : (i p m at n : ℕ) → Some (NasResponse i p m at n) ≡ read_packet l
       → (is_nas_response l ≡ true) × (i ≡ identifier l) × (p ≡ 16) × (m ≡ field l 14 2) × (at ≡ nas_place l + 2) × (n ≡ field l (nas_place l) 2)
   unfolding read_packet
   response_read i p m at n e = go (is_success l) (is_message 1 1 l) (is_nas_request l) (is_nas_response l) (is_message 2 4 l) e
     where
       go : (a b c d f : Bool)
-          → NasResponse i p m at n
-          ≡ cond a (Success (identifier l)) (cond b (Start (identifier l)) (cond c (NasRequest (identifier l) 16 (field l 14 2))
-          (cond d (NasResponse (identifier l) 16 (field l 14 2) (nas_place l + 2) (field l (nas_place l) 2)) (cond f (Stop (identifier l)) Other))))
+          → Some (NasResponse i p m at n)
+          ≡ cond a (Some (Success (identifier l))) (cond b (Some (Start (identifier l))) (cond c (Some (NasRequest (identifier l) 16 (field l 14 2)))
+          (cond d (Some (NasResponse (identifier l) 16 (field l 14 2) (nas_place l + 2) (field l (nas_place l) 2))) (cond f (Some (Stop (identifier l))) None))))
           → (d ≡ true) × (i ≡ identifier l) × (p ≡ 16) × (m ≡ field l 14 2) × (at ≡ nas_place l + 2) × (n ≡ field l (nas_place l) 2)
       go true b c d f e = (cc, cc, cc, cc, cc, cc)
       go false true c d f e = (cc, cc, cc, cc, cc, cc)
@@ -75,7 +75,7 @@ module _ (l : List ℕ) where
       )
 
   -- NAS that was read lies within the packet
-  pub request_within : (i at n : ℕ) → NasRequest i at n ≡ read_packet l → at + n ≤ length l
+  pub request_within : (i at n : ℕ) → Some (NasRequest i at n) ≡ read_packet l → at + n ≤ length l
   unfolding is_nas_request
   request_within i at n e =
       let r = request_read i at n e in
@@ -97,53 +97,3 @@ header_facts l c m e =
       code_is = eqb-true _ _ (and_right (is_expanded l) (eqb (code l) c) coded);
       message_is = eqb-true _ _ (and_right (is_expanded l && eqb (code l) c) (eqb (message l) m) e);
     }
-
--- what a packet is read as, by the tests that it passes
-module _ (l : List ℕ) where
-  -- an EAP-5G packet has more octets than Success
-  not_success : (c m : ℕ) → is_message c m l ≡ true → is_success l ≡ false
-  unfolding is_success
-  not_success c m e = simp (ne_eqb (length l) 4 (λ q. omega (arith, q, (header_facts l c m e).expanded.enough)))
-
-  pub start_is : is_message 1 1 l ≡ true → Start (identifier l) ≡ read_packet l
-  unfolding read_packet
-  start_is e = simp (not_success 1 1 e, e)
-
-  pub success_is : is_success l ≡ true → Success (identifier l) ≡ read_packet l
-  unfolding read_packet
-  success_is e = rw e
-
-  -- Success has its identifier
-  pub success_long : is_success l ≡ true → 4 ≤ length l
-  unfolding is_success
-  success_long e =
-      let four = eqb-true (length l) 4 (and_left (eqb (length l) 4) (eqb (code l) 3) (and_left (eqb (length l) 4 && eqb (code l) 3) (eqb (length_field l) 4) e)) in
-      omega arith
-
-  -- a NAS request has its NAS length
-  pub request_long : is_nas_request l ≡ true → 16 ≤ length l
-  unfolding is_nas_request
-  request_long e =
-      let nas = nas_facts l 14 (and_right (is_message 1 2 l) (is_nas l 14) e) in
-      omega arith
-
-  pub response_is : is_message 2 2 l ≡ true → response_of l ≡ read_packet l
-  unfolding is_message
-  response_is e =
-      let h = header_facts l 2 2 e in
-      nas_response l (λ q. omega (arith, q, h.expanded.enough)) (and_left (is_expanded l) (eqb (code l) 2) (and_left (is_expanded l && eqb (code l) 2) (eqb (message l) 2) e))
-      h.code_is h.message_is
-
-  module _ (no_start : is_message 1 1 l ≡ false) where
-    pub request_is : is_nas_request l ≡ true → NasRequest (identifier l) 16 (field l 14 2) ≡ read_packet l
-    unfolding read_packet is_nas_request
-    request_is e = simp (not_success 1 2 (and_left (is_message 1 2 l) (is_nas l 14) e), no_start, e)
-
-    module _ (no_request : is_nas_request l ≡ false) (no-success : is_success l ≡ false) (no_response : is_message 2 2 l ≡ false) where
-      pub stop_is : is_message 2 4 l ≡ true → Stop (identifier l) ≡ read_packet l
-      unfolding read_packet is_nas_response
-      stop_is e = simp (no-success, no_start, no_request, no_response, e)
-
-      pub other_is : is_message 2 4 l ≡ false → Other ≡ read_packet l
-      unfolding read_packet is_nas_response
-      other_is e = simp (no-success, no_start, no_request, no_response, e)

@@ -1,10 +1,10 @@
 -- EAP-5G packets, read field by field in the order of RFC 3748 and TS 24.502 clause 9.3.2.
-use Rattle.std.specs.Prelude.{ℕ, ◌+◌, Bool, true, false, cond, ◌&&◌, List, [], ◌∷◌, leb, eqb, length}
+use Rattle.std.specs.Prelude.{ℕ, ◌+◌, Bool, true, false, cond, ◌&&◌, List, [], ◌∷◌, leb, eqb, length, Option, None, Some}
 use Rattle.octets.specs.Digits.{field}
-use Rattle.octets.specs.Part.{padded, part, zeros}
+use Rattle.octets.specs.Part.{padded, part}
 use Rattle.parameters.specs.Parameters.{most_parameters, well_formed}
 use Rattle.eap.specs.declared.Packet.{Packet}
-use Rattle.eap.specs.declared.Packet.TheVariants.{Start, NasRequest, Success, NasResponse, Stop, Other}
+use Rattle.eap.specs.declared.Packet.TheVariants.{Start, NasRequest, Success, NasResponse, Stop}
 
 -- 1 is a request, 2 a response, 3 Success
 unfoldable pub code : List ℕ → ℕ
@@ -78,13 +78,13 @@ unfoldable pub is_nas_response : List ℕ → Bool
 is_nas_response l = is_message 2 2 l && is_parameters l 14 && is_nas l (nas_place l)
 
 -- what a packet is, with its identifier and where its AN-parameters and NAS stand and how long they are; octets after these are skipped
-unfoldable pub read_packet : List ℕ → Packet
+unfoldable pub read_packet : List ℕ → Option Packet
 read_packet l =
-    cond (is_success l) (Success (identifier l))
-    (cond (is_message 1 1 l) (Start (identifier l))
-    (cond (is_nas_request l) (NasRequest (identifier l) 16 (field l 14 2))
-    (cond (is_nas_response l) (NasResponse (identifier l) 16 (field l 14 2) (nas_place l + 2) (field l (nas_place l) 2))
-    (cond (is_message 2 4 l) (Stop (identifier l)) Other))))
+    cond (is_success l) (Some (Success (identifier l)))
+    (cond (is_message 1 1 l) (Some (Start (identifier l)))
+    (cond (is_nas_request l) (Some (NasRequest (identifier l) 16 (field l 14 2)))
+    (cond (is_nas_response l) (Some (NasResponse (identifier l) 16 (field l 14 2) (nas_place l + 2) (field l (nas_place l) 2)))
+    (cond (is_message 2 4 l) (Some (Stop (identifier l))) None))))
 
 -- what the network sends and the handset reads: Start, NAS requests and Success
 unfoldable pub is_request : Packet → Bool
@@ -93,13 +93,11 @@ is_request (NasRequest i at n) = true
 is_request (Success i) = true
 is_request (NasResponse i p m at n) = false
 is_request (Stop i) = false
-is_request Other = false
 
--- a packet in six numbers: 1 Start, 2 NAS, 3 Success, 4 Stop; its identifier; where AN-parameters and NAS start and how long they are; zeros for any other
+-- a packet in six numbers: 1 Start, 2 NAS, 3 Success, 4 Stop; its identifier; where AN-parameters and NAS start and how long they are
 unfoldable pub packet_numbers : Packet → List ℕ
 packet_numbers (Start i) = padded 6 (1 ∷ i ∷ [])
 packet_numbers (NasRequest i at n) = 2 ∷ i ∷ 0 ∷ 0 ∷ at ∷ n ∷ []
 packet_numbers (Success i) = padded 6 (3 ∷ i ∷ [])
 packet_numbers (NasResponse i p m at n) = 2 ∷ i ∷ p ∷ m ∷ at ∷ n ∷ []
 packet_numbers (Stop i) = padded 6 (4 ∷ i ∷ [])
-packet_numbers Other = zeros 6

@@ -1,10 +1,10 @@
 // The reader of EAP-5G packets.
 #![tactic(auto)]
 
-ghost use Rattle.std.specs.Prelude.{◌≡◌, ◌≤◌, length};
+ghost use Rattle.std.specs.Prelude.{◌≡◌, ◌+◌, ◌≤◌, if◌then◌else◌, length, IfSome, IsTrue};
 ghost use Rattle.octets.specs.Digits.{field};
-ghost use Rattle.eap.specs.Packet.{fits, is_expanded, is_message, is_nas, is_nas_request, is_parameters, is_success, read_packet};
-ghost use Rattle.eap.specs.Branch.{block_of, response_of};
+ghost use Rattle.eap.specs.Packet.{fits, is_expanded, is_nas, is_parameters, is_success, read_packet};
+ghost use Rattle.eap.specs.Branch.{response_of};
 
 use buffer::number::get;
 use buffer::slice::{part, word};
@@ -15,7 +15,7 @@ use parameters::MOST_PARAMETERS;
 pub const MOST_NAS: usize = 2048;
 
 // Type, vendor and vendor type of every packet but Success as one number: 254, 10415 and 3 in eight octets, the first of them lowest.
-const EXPANDED: u64 = 216172785052418302;
+const EXPANDED: u64 = 0x0300_0000_AF28_00FE;
 
 // A packet: its identifier, and where its AN-parameters and its NAS stand and how long they are.
 #[derive(Clone, Copy)]
@@ -41,169 +41,100 @@ pub enum Packet {
     Stop {
         identifier: u64,
     },
-    // None of these.
-    Other,
-}
-
-// Octets behind their length: how many they are.
-#[derive(Clone, Copy)]
-pub enum Block {
-    Length(usize),
-    Broken,
 }
 
 // The length that stands at a place, where it and its octets lie within the packet.
-fn block_at(packet: &[u8], at: usize) -> Block
-    ensures { result ≡ block_of (fits packet.now at) (field packet.now at 2) }
+#[tactic(auto, unfolding(crate::specs::Packet::fits))]
+fn block_at(packet: &[u8], at: usize) -> Option<usize>
+    ensures value { result ≡ (if fits packet.now at then Some (field packet.now at 2) else None) }
+    ensures within { IfSome result (λ n. at + 2 + n ≤ length packet.now) }
 {
-    let n = packet.len();
-    if n < at {
-        return Block::Broken;
-    }
-    if n - at < 2 {
-        return Block::Broken;
-    }
+    let room = packet.len().checked_sub(at)?.checked_sub(2)?;
     let length = get(packet, at, 2) as usize;
-    if n - at - 2 < length {
-        return Block::Broken;
-    }
-    Block::Length(length)
+    (length <= room).then_some(length)
 }
 
 // The length of the NAS behind a place, where it has 1 to 2,048 octets.
-fn nas_at(packet: &[u8], at: usize) -> Block
-    ensures { result ≡ block_of (is_nas packet.now at) (field packet.now at 2) }
+#[tactic(auto, unfolding(crate::specs::Packet::is_nas))]
+fn nas_at(packet: &[u8], at: usize) -> Option<usize>
+    ensures value { result ≡ (if is_nas packet.now at then Some (field packet.now at 2) else None) }
+    ensures within { IfSome result (λ n. at + 2 + n ≤ length packet.now) }
 {
-    let Block::Length(length) = block_at(packet, at) else {
-        return Block::Broken;
-    };
-    if length < 1 {
-        return Block::Broken;
-    }
-    if MOST_NAS < length {
-        return Block::Broken;
-    }
-    Block::Length(length)
+    let length = block_at(packet, at)?;
+    (1..=MOST_NAS).contains(&length).then_some(length)
 }
 
 // The length of the AN-parameters behind a place, where they have at most 1,024 octets and end exactly.
-fn parameters_at(packet: &[u8], at: usize) -> Block
-    ensures { result ≡ block_of (is_parameters packet.now at) (field packet.now at 2) }
+#[tactic(auto, unfolding(crate::specs::Packet::is_parameters, crate::specs::Packet::fits))]
+fn parameters_at(packet: &[u8], at: usize) -> Option<usize>
+    ensures value { result ≡ (if is_parameters packet.now at then Some (field packet.now at 2) else None) }
+    ensures within { IfSome result (λ n. at + 2 + n ≤ length packet.now) }
 {
-    let Block::Length(length) = block_at(packet, at) else {
-        return Block::Broken;
-    };
-    if MOST_PARAMETERS < length {
-        return Block::Broken;
-    }
-    if !well_formed(part(packet, at + 2, length)) {
-        return Block::Broken;
-    }
-    Block::Length(length)
+    let length = block_at(packet, at)?;
+    (length <= MOST_PARAMETERS && well_formed(part(packet, at + 2, length))).then_some(length)
 }
 
 // Whether a packet begins as every EAP-5G packet does, and has the length that it says.
+#[tactic(auto, unfolding(crate::specs::Packet::is_expanded, crate::specs::Packet::length_field))]
 fn is_expanded(packet: &[u8]) -> bool
-    ensures { result ≡ is_expanded packet.now }
+    ensures value { result ≡ is_expanded packet.now }
+    ensures enough { IsTrue result → 14 ≤ length packet.now }
 {
     let n = packet.len();
-    if n < 14 {
-        return false;
-    }
-    if get(packet, 2, 2) != n as u64 {
-        return false;
-    }
-    word(packet, 4) == EXPANDED
-}
-
-// Whether a packet is an EAP-5G packet of a code with a message.
-pub fn is_message(packet: &[u8], code: u64, message: u64) -> bool
-    ensures { result ≡ is_message code message packet.now }
-{
-    if !is_expanded(packet) {
-        return false;
-    }
-    if get(packet, 0, 1) != code {
-        return false;
-    }
-    get(packet, 12, 1) == message
-}
-
-// Whether a packet is a request with a NAS message, and whole NAS follows.
-pub fn is_nas_request(packet: &[u8]) -> bool
-    ensures { result ≡ is_nas_request packet.now }
-{
-    if !is_message(packet, 1, 2) {
-        return false;
-    }
-    match nas_at(packet, 14) {
-        Block::Length(_) => true,
-        Block::Broken => false,
-    }
+    14 <= n && get(packet, 2, 2) == n as u64 && word(packet, 4) == EXPANDED
 }
 
 // Whether a packet is Success.
-pub fn is_success(packet: &[u8]) -> bool
+#[tactic(auto, unfolding(crate::specs::Packet::is_success, crate::specs::Packet::code, crate::specs::Packet::length_field))]
+fn is_success(packet: &[u8]) -> bool
     ensures { result ≡ is_success packet.now }
 {
-    if packet.len() != 4 {
-        return false;
-    }
-    if get(packet, 0, 1) != 3 {
-        return false;
-    }
-    get(packet, 2, 2) == 4
+    packet.len() == 4 && get(packet, 0, 1) == 3 && get(packet, 2, 2) == 4
 }
 
 // A response with a NAS message is that where what follows is whole.
-pub fn read_response(packet: &[u8]) -> Packet
-    requires { 14 ≤ length packet.now }
+#[tactic(auto, unfolding(crate::specs::Branch::response_of, crate::specs::Packet::nas_place, crate::specs::Packet::identifier))]
+fn read_response(packet: &[u8]) -> Option<Packet>
     ensures { result ≡ response_of packet.now }
 {
-    let Block::Length(parameters_length) = parameters_at(packet, 14) else {
-        return Packet::Other;
-    };
+    let parameters_length = parameters_at(packet, 14)?;
     let at = 16 + parameters_length;
-    let Block::Length(nas_length) = nas_at(packet, at) else {
-        return Packet::Other;
-    };
-    Packet::NasResponse {
+    let nas_length = nas_at(packet, at)?;
+    Some(Packet::NasResponse {
         identifier: get(packet, 1, 1),
         parameters: 16,
         parameters_length,
         nas: at + 2,
         nas_length,
-    }
+    })
 }
 
 // Reads any octets.
-pub fn read(packet: &[u8]) -> Packet
+#[tactic(auto, unfolding(crate::specs::Packet::read_packet, crate::specs::Packet::is_success, crate::specs::Packet::is_message, crate::specs::Packet::is_nas_request, crate::specs::Packet::is_nas_response, crate::specs::Packet::identifier, crate::specs::Packet::code, crate::specs::Packet::message, crate::specs::Branch::response_of))]
+pub fn read(packet: &[u8]) -> Option<Packet>
     ensures { result ≡ read_packet packet.now }
 {
-    if is_message(packet, 1, 1) {
-        return Packet::Start {
-            identifier: get(packet, 1, 1),
-        };
-    }
-    if is_nas_request(packet) {
-        return Packet::NasRequest {
-            identifier: get(packet, 1, 1),
-            nas: 16,
-            nas_length: get(packet, 14, 2) as usize,
-        };
-    }
     if is_success(packet) {
-        return Packet::Success {
+        return Some(Packet::Success {
             identifier: get(packet, 1, 1),
-        };
+        });
     }
-    if is_message(packet, 2, 2) {
-        return read_response(packet);
+    if !is_expanded(packet) {
+        return None;
     }
-    if is_message(packet, 2, 4) {
-        return Packet::Stop {
-            identifier: get(packet, 1, 1),
-        };
+    let identifier = get(packet, 1, 1);
+    match (get(packet, 0, 1), get(packet, 12, 1)) {
+        (1, 1) => Some(Packet::Start { identifier }),
+        (1, 2) => {
+            let nas_length = nas_at(packet, 14)?;
+            Some(Packet::NasRequest {
+                identifier,
+                nas: 16,
+                nas_length,
+            })
+        }
+        (2, 2) => read_response(packet),
+        (2, 4) => Some(Packet::Stop { identifier }),
+        _ => None,
     }
-    Packet::Other
 }

@@ -1,36 +1,29 @@
 -- `home` at the start of a text.
+use Rattle.std.specs.Prelude.{Option, None, Some}
 use Prim.Native.Nat.{ℕ, ◌+◌, ◌<◌}
 use mathlib.Core.Bool.{true, false}
 use mathlib.Core.List.{List, [], ◌∷◌, ◌++◌}
-use mathlib.Core.Option.{none, some}
 use mathlib.Core.Path.{◌≡◌, refl, sym, ap, ◌∙◌}
 use native.Mathlib.Omega.{arith}
 use lib.Dec.{eqb}
 use lib.ListN.{length, get_or, drop, length-append, length-drop, get_or-append}
 use lib.Seq.{get_or-append_seam, get_or-drop}
 use borrow.Author.Tests.{eq-eqb, not-true}
-use Rattle.octets.specs.Digits.{be, digits}
-use Rattle.octets.specs.Part.{octet_is, part, same}
-use Rattle.octets.proofs.Search.{lower}
+use Rattle.octets.specs.Part.{octet_is, same}
 use Rattle.text.specs.Text.{text}
 use Rattle.network.specs.declared.Plmn.{Plmn}
-use Rattle.entry.specs.Entry.{home_entry, three}
+use Rattle.entry.specs.Entry.{home_entry, three, Entry, Home, Name, Node, Preference, Bar, Bad}
 use Rattle.entry.specs.Field.{plmn_of}
-use Rattle.entry.specs.declared.Entry.{Entry}
-use Rattle.entry.specs.declared.Entry.TheVariants.{Home, Name, Node, Preference, Bar, Bad}
 use Rattle.fields.proofs.Joins.{Free, is_not}
 use Rattle.fields.proofs.Places.{passes_each}
 use Rattle.fields.specs.Read.{PlmnIs}
-use Rattle.fields.specs.declared.read.PlmnAt.{PlmnAt}
-use Rattle.fields.specs.declared.read.PlmnAt.TheVariants.{Is, Not}
-use Rattle.fields.proofs.Plmns.{no_room}
-use Rattle.entries.specs.Branch.{HomeIs}
+use Rattle.fields.specs.declared.field.Field.{Field}
+use Rattle.entries.specs.Branch.{BeginsIs, HomeIs}
 use Rattle.config.proofs.Ends.{line_end_at}
 use Rattle.config.specs.Lines.{entries_from, line_end}
 use Rattle.config.specs.Settings.{as_home, config_of, from_home, name_place, with_home}
 use Rattle.entries.proofs.Runs.{by_silence}
 use Rattle.entries.proofs.Stands.{Stands, line₃, line_size, plain_home, plain_plmn, regroup₃, three_line, with_tab}
-use Rattle.entries.proofs.Words.{word_behind, word_room, word_stands, word_tested}
 
 free_each : (x : ℕ) (l : List ℕ) → Free x l → (j : ℕ) → j < length l → eqb (get_or l j 0) x ≡ false
 unfolding is_not
@@ -49,12 +42,16 @@ line_ends l at line m e free =
     other : (k : ℕ) → k < length line → octet_is l at 10 k ≡ false
     other k h = ap (λ (v : ℕ). eqb v 10) (get_d_of k ∙ get_or-append line (10 ∷ m) 0 k h) ∙ free_each 10 line free k h
 
+-- the word `home` and a tab
+abbrev pub word : List ℕ
+word = 104 ∷ 111 ∷ 109 ∷ 101 ∷ 9 ∷ []
+
 module _ (l : List ℕ) where
-  no_home : ((a b m : List ℕ) (p : Plmn) → l ≡ line₃ (text "home") a b m → plmn_of a b ≡ some p → ⊥) → none ≡ config_of l
+  no_home : ((a b m : List ℕ) (p : Plmn) → l ≡ line₃ (text "home") a b m → plmn_of a b ≡ Some p → ⊥) → None ≡ config_of l
   unfolding as_home config_of from_home with_home
-  no_home h = by_silence as_home l 0 other (λ (es : List Entry). none ≡ from_home (name_place l) es) refl (λ e es k. sym (rw k))
+  no_home h = by_silence as_home l 0 other (λ (es : List Entry). None ≡ from_home (name_place l) es) refl (λ e es k. sym (rw k))
     where
-      other : (e : Entry) → Stands l e → as_home e ≡ none
+      other : (e : Entry) → Stands l e → as_home e ≡ None
       other (Home p) s = absurd (h s.0 s.1 s.2 p s.3 s.4)
       other (Name n) s = refl
       other (Node a) s = refl
@@ -62,31 +59,20 @@ module _ (l : List ℕ) where
       other (Bar p) s = refl
       other Bad s = refl
 
-  -- the word `home` and a tab
-  abbrev word : List ℕ
-  word = be 4 1752132965 ++ 9 ∷ []
-
-  pub home_other : same (part l 0 5) word ≡ false → none ≡ config_of l
-  unfolding text be digits
-  home_other h = no_home (λ a b m p e s. word_tested l 0 5 word (a ++ 9 ∷ (b ++ 10 ∷ m)) refl e h)
+  pub home_other : BeginsIs l 0 word false → HomeIs l None
+  unfolding text
+  home_other h = no_home (λ a b m p e s. h (a ++ 9 ∷ (b ++ 10 ∷ m)) e)
 
   -- the PLMN behind the word decides
-  pub home_is : same (part l 0 5) word ≡ true → (x : PlmnAt) → PlmnIs l 5 10 x → HomeIs l x
-  unfolding text be digits same three home_entry
-  home_is h Not none_here = no_home (λ a b m p e s. none_here a b m p (word_behind l 0 5 word (a ++ 9 ∷ (b ++ 10 ∷ m)) refl e) s)
-  home_is h (Is p next) (a, b, e, within, says) =
-      let plain = plain_plmn a b p says in
-      let whole : drop 0 l ≡ line₃ (text "home") a b (drop next l) = word_stands l 0 5 word h ∙ ap (λ (m : List ℕ). word ++ m) e in
+  pub home_is : BeginsIs l 0 word true → (r : Option (Field Plmn)) → PlmnIs l 5 10 r → HomeIs l r
+  unfolding text same three home_entry
+  home_is begins None none_here = no_home (λ a b m p e s. none_here a b m p (ap (drop 5) (sym begins.0 ∙ e)) s)
+  home_is begins (Some r) (a, b, e, within, says) =
+      let plain = plain_plmn a b r.value says in
+      let whole : drop 0 l ≡ line₃ (text "home") a b (drop r.next l) = begins.0 ∙ ap (λ (m : List ℕ). word ++ m) e in
       let line = text "home" ++ 9 ∷ (a ++ 9 ∷ b) in
-      let parts = whole ∙ sym (regroup₃ (text "home") a b (drop next l)) in
-      let entry = three_line l 0 next within (text "home") a b plain_home plain.0 plain.1 whole in
-      let size = line_size l 0 line next parts within in
-      let ends = line_ends l 0 line (drop next l) parts (with_tab (text "home") (a ++ 9 ∷ b) plain_home.1 (with_tab a b plain.0.1 plain.1.1)) in
-      (entry.0 ∙ ap (λ (y : Entry). y ∷ entries_from l next) (ap home_entry says), omega arith, within)
-
-  pub home_short : length l < 12 → none ≡ config_of l
-  unfolding text be digits
-  home_short h =
-      lower (length l) 5
-      (λ k. no_home (λ a b m p e s. word_room l 0 5 word (a ++ 9 ∷ (b ++ 10 ∷ m)) refl e (omega arith) k))
-      (λ k. no_home (λ a b m p e s. no_room l 5 10 k (omega arith) a b m p (word_behind l 0 5 word (a ++ 9 ∷ (b ++ 10 ∷ m)) refl e) s))
+      let parts = whole ∙ sym (regroup₃ (text "home") a b (drop r.next l)) in
+      let entry = three_line l 0 r.next within (text "home") a b plain_home plain.0 plain.1 whole in
+      let size = line_size l 0 line r.next parts within in
+      let ends = line_ends l 0 line (drop r.next l) parts (with_tab (text "home") (a ++ 9 ∷ b) plain_home.1 (with_tab a b plain.0.1 plain.1.1)) in
+      (entry.0 ∙ ap (λ (y : Entry). y ∷ entries_from l r.next) (ap home_entry says), omega arith, within)

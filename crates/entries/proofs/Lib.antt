@@ -1,8 +1,8 @@
 -- The laws of this crate, for its proofs and those of the crates above it.
 pub mod Barred
+pub mod Halves
 pub mod Homes
 pub mod Noding
-pub mod Packed
 pub mod Preferences
 pub mod Runs
 pub mod Stands

@@ -1,9 +1,9 @@
 -- The line at a place and the entry that it says.
+use Rattle.std.specs.Prelude.{Some}
 use Prim.Native.Nat.{ℕ, suc, ◌+◌, ◌*◌, ◌≤◌, ◌<◌}
 use mathlib.Core.Bool.{true}
 use mathlib.Core.List.{List, [], ◌∷◌, ◌++◌, append_assoc}
 use mathlib.Core.Logic.{◌⊎◌, inl, inr}
-use mathlib.Core.Option.{some}
 use mathlib.Core.Path.{◌≡◌, refl, sym, ap, ◌∙◌, subst}
 use native.Mathlib.Omega.{arith}
 use lib.ListN.{length, drop, length-append, length-drop}
@@ -14,11 +14,9 @@ use Rattle.octets.proofs.Search.{and_left, and_right}
 use Rattle.text.specs.Text.{text, read_digits}
 use Rattle.network.specs.declared.Plmn.{Plmn}
 use Rattle.address.specs.Address.{width_of}
-use Rattle.entry.specs.Entry.{four, line_entry, three}
+use Rattle.entry.specs.Entry.{four, line_entry, three, Entry, Home, Name, Node, Preference, Bar, Bad}
 use Rattle.entry.specs.Field.{is_name, plmn_of, priority_of}
 use Rattle.entry.specs.Pieces.{pieces}
-use Rattle.entry.specs.declared.Entry.{Entry}
-use Rattle.entry.specs.declared.Entry.TheVariants.{Home, Name, Node, Preference, Bar, Bad}
 use Rattle.fields.proofs.Characters.{decimal_free, plmn_fields}
 use Rattle.fields.proofs.Joins.{Free, begins, free_join, is_not, piece_ends, some_piece}
 use Rattle.fields.proofs.Says.{Says, four_joined, four_parted, said, three_joined, three_parted}
@@ -34,16 +32,16 @@ line₄ w a b c m = w ++ 9 ∷ (a ++ 9 ∷ (b ++ 9 ∷ (c ++ 10 ∷ m)))
 
 -- a node's address of 2 * width_of version digits
 abbrev Address : ℕ → List ℕ → List ℕ → Type 0
-Address version k d = (f : List ℕ) × (x : ℕ) × (m : List ℕ) × (d ≡ line₃ (text "node") k f m) × (length f ≡ 2 * width_of version) × (read_digits 16 f ≡ some x)
+Address version k d = (f : List ℕ) × (x : ℕ) × (m : List ℕ) × (d ≡ line₃ (text "node") k f m) × (length f ≡ 2 * width_of version) × (read_digits 16 f ≡ Some x)
 
 -- how a text begins whose first line says an entry
 abbrev pub Stands : List ℕ → Entry → Type 0
-Stands d (Home p) = (a : List ℕ) × (b : List ℕ) × (m : List ℕ) × (d ≡ line₃ (text "home") a b m) × (plmn_of a b ≡ some p)
+Stands d (Home p) = (a : List ℕ) × (b : List ℕ) × (m : List ℕ) × (d ≡ line₃ (text "home") a b m) × (plmn_of a b ≡ Some p)
 Stands d (Name n) = (f : List ℕ) × (m : List ℕ) × (d ≡ line₃ (text "node") (text "name") f m) × (is_name f ≡ true)
 Stands d (Node a) = Address 4 (text "v4") d ⊎ Address 6 (text "v6") d
 Stands d (Preference x) =
-    (a : List ℕ) × (b : List ℕ) × (c : List ℕ) × (m : List ℕ) × (d ≡ line₄ (text "plmn") a b c m) × (plmn_of a b ≡ some x.plmn) × (priority_of c ≡ some x.priority)
-Stands d (Bar p) = (a : List ℕ) × (b : List ℕ) × (m : List ℕ) × (d ≡ line₃ (text "bar") a b m) × (plmn_of a b ≡ some p)
+    (a : List ℕ) × (b : List ℕ) × (c : List ℕ) × (m : List ℕ) × (d ≡ line₄ (text "plmn") a b c m) × (plmn_of a b ≡ Some x.plmn) × (priority_of c ≡ Some x.priority)
+Stands d (Bar p) = (a : List ℕ) × (b : List ℕ) × (m : List ℕ) × (d ≡ line₃ (text "bar") a b m) × (plmn_of a b ≡ Some p)
 Stands d Bad = Unit {0}
 
 pub regroup₃ : (w a b m : List ℕ) → (w ++ 9 ∷ (a ++ 9 ∷ b)) ++ 10 ∷ m ≡ line₃ w a b m
@@ -91,11 +89,11 @@ module _ (l : List ℕ) (at : ℕ) (line : List ℕ) (next : ℕ) (e : drop at l
 abbrev pub Plain : List ℕ → Type 0
 Plain f = Free 9 f × Free 10 f
 
-pub plain_digits : (f : List ℕ) (x : ℕ) → read_digits 10 f ≡ some x → Plain f
+pub plain_digits : (f : List ℕ) (x : ℕ) → read_digits 10 f ≡ Some x → Plain f
 plain_digits f x e = (decimal_free 9 f x (omega arith) e, decimal_free 10 f x (omega arith) e)
 
 -- the fields of a PLMN
-pub plain_plmn : (a b : List ℕ) (p : Plmn) → plmn_of a b ≡ some p → Plain a × Plain b
+pub plain_plmn : (a b : List ℕ) (p : Plmn) → plmn_of a b ≡ Some p → Plain a × Plain b
 plain_plmn a b p e = let f = plmn_fields a b p e in (plain_digits a f.mcc f.mcc_read, plain_digits b f.mnc f.mnc_read)
 
 -- a tab and a field behind a field without a newline

@@ -1,102 +1,71 @@
-// Lines of the configuration text, read at fixed places.
-ghost use Rattle.std.specs.Prelude.{◌+◌, ◌^◌, ◌≤◌, ◌<◌, [], ◌∷◌, ◌++◌, ◌≡◌, length};
-ghost use Rattle.octets.specs.Digits.{be};
-ghost use Rattle.octets.specs.Part.{part, same};
-ghost use Rattle.entry.specs.Pieces.{tab_code};
-ghost use Rattle.entries.specs.Branch.{HomeIs, ListedIs};
+// Lines of the configuration text, each begun by its word.
+ghost use Rattle.std.specs.Prelude.{◌≤◌, length};
+ghost use Rattle.entries.specs.Branch.{BeginsIs, HomeIs, ListedIs};
 ghost use Rattle.config.specs.declared.Kind.TheVariants as Kind;
 
-use crate::list::{Listed, kept};
-use buffer::number::get;
+use entry::field::Preferred;
 use entry::{NEWLINE, TAB};
-use fields::read::{PlmnAt, PriorityAt, plmn_at, priority_at};
+use fields::field::Field;
+use fields::read::{plmn_at, priority_at};
+use network::Plmn;
 
-// The word `bar` and a tab, as one number.
-const BAR: u64 = 1650553353;
+// The octets of the word `bar` and a tab.
+const BEHIND_BAR: usize = 4;
 
-// The word `plmn`, as one number.
-const PLMN: u64 = 1886154094;
+// The octets of the word `home` or `plmn` and a tab.
+const BEHIND_WORD: usize = 5;
 
-// The word `home`, as one number.
-const HOME: u64 = 1752132965;
-
-// The octets of a word that is compared as a number.
-pub(crate) const WORD: usize = 4;
-
-// The octets of a word and the tab behind it.
-pub(crate) const BEHIND_WORD: usize = 5;
-
-// The octets of the shortest `bar` line; a test for them serves the reader of its PLMN too.
-const SHORTEST_BAR: usize = 11;
-
-// The octets of the shortest `plmn` line; a test for them serves the readers of its fields too.
-const SHORTEST_PLMN: usize = 14;
-
-// The octets of the shortest `home` line; a test for them serves the reader of its PLMN too.
-const SHORTEST_HOME: usize = 12;
-
-// Whether the four octets at a place say a number.
-pub(crate) fn four_at(text: &[u8], at: usize, x: u64) -> bool
-    requires { (at + 4 ≤ length text.now) × (x < 256 ^ 4) }
-    ensures { result ≡ same (part text.now at 4) (be 4 x) }
+// Whether octets stand at a place.
+pub(crate) fn begins(text: &[u8], at: usize, octets: &[u8]) -> bool
+    requires { at ≤ length text.now }
+    ensures { BeginsIs text.now at octets.now result }
 {
-    get(text, at, WORD) == x
+    text[at..].starts_with(octets)
 }
 
-// Whether a word of four octets, said as a number, and a tab stand at a place.
-pub(crate) fn word_at(text: &[u8], at: usize, word: u64) -> bool
-    requires { (at + 5 ≤ length text.now) × (word < 256 ^ 4) }
-    ensures { result ≡ same (part text.now at 5) (be 4 word ++ tab_code ∷ []) }
-{
-    four_at(text, at, word) & (text[at + WORD] == TAB)
-}
-
-// A `bar` entry at a place, kept with priority 0.
-pub fn bar_at(text: &[u8], at: usize) -> Listed
+// A `bar` entry at a place, which has priority 0.
+pub fn bar_at(text: &[u8], at: usize) -> Option<Field<Preferred>>
     requires { at ≤ length text.now }
     ensures { ListedIs Kind.Bar text.now at result }
 {
-    if text.len() < at + SHORTEST_BAR {
-        return Listed::Not;
+    if !begins(text, at, b"bar\t") {
+        return None;
     }
-    if !four_at(text, at, BAR) {
-        return Listed::Not;
-    }
-    let PlmnAt::Is(p, next) = plmn_at(text, at + WORD, NEWLINE) else {
-        return Listed::Not;
-    };
-    Listed::Is(kept(p, 0), next)
+    let plmn = plmn_at(text, at + BEHIND_BAR, NEWLINE)?;
+    Some(Field {
+        value: Preferred {
+            plmn: plmn.value,
+            priority: 0,
+        },
+        next: plmn.next,
+    })
 }
 
 // A `plmn` entry at a place.
-pub fn preference_at(text: &[u8], at: usize) -> Listed
+pub fn preference_at(text: &[u8], at: usize) -> Option<Field<Preferred>>
     requires { at ≤ length text.now }
     ensures { ListedIs Kind.Plmn text.now at result }
 {
-    if text.len() < at + SHORTEST_PLMN {
-        return Listed::Not;
+    if !begins(text, at, b"plmn\t") {
+        return None;
     }
-    if !word_at(text, at, PLMN) {
-        return Listed::Not;
-    }
-    let PlmnAt::Is(p, next) = plmn_at(text, at + BEHIND_WORD, TAB) else {
-        return Listed::Not;
-    };
-    let PriorityAt::Is(x, end) = priority_at(text, next) else {
-        return Listed::Not;
-    };
-    Listed::Is(kept(p, x), end)
+    let plmn = plmn_at(text, at + BEHIND_WORD, TAB)?;
+    let priority = priority_at(text, plmn.next)?;
+    Some(Field {
+        value: Preferred {
+            plmn: plmn.value,
+            priority: priority.value,
+        },
+        next: priority.next,
+    })
 }
 
 // `home` at the start of the text: its PLMN.
-pub fn home_at(text: &[u8]) -> PlmnAt
+pub fn home_at(text: &[u8]) -> Option<Field<Plmn>>
     ensures { HomeIs text.now result }
 {
-    if text.len() < SHORTEST_HOME {
-        return PlmnAt::Not;
-    }
-    if !word_at(text, 0, HOME) {
-        return PlmnAt::Not;
+    if !begins(text, 0, b"home\t") {
+        return None;
     }
     plmn_at(text, BEHIND_WORD, NEWLINE)
 }

@@ -1,29 +1,39 @@
 -- One line of the configuration text, by its fields.
-use Rattle.std.specs.Prelude.{ℕ, ◌+◌, ◌*◌, ◌<◌, cond, List, [], ◌∷◌, eqb, length}
-use Rattle.std.proofs.Math.Option.{Option, none, some}
+use Rattle.std.specs.Prelude.{ℕ, ◌+◌, ◌*◌, cond, List, [], ◌∷◌, eqb, length, Option, None, Some}
 use Rattle.octets.specs.Part.{same}
 use Rattle.text.specs.Text.{text, read_digits}
 use Rattle.network.specs.declared.Plmn.{Plmn}
 use Rattle.address.specs.Address.{address_of, width_of}
+use Rattle.address.specs.declared.Address.{Address}
 use Rattle.entry.specs.Field.{plmn_of, priority_of, is_name}
 use Rattle.entry.specs.Pieces.{pieces, tab_code}
-use Rattle.entry.specs.declared.Entry.{Entry}
-use Rattle.entry.specs.declared.Entry.TheVariants.{Home, Name, Node, Preference, Bar, Bad}
+use Rattle.entry.specs.declared.field.Preferred.{Preferred}
+
+-- what a line says
+pub data Entry : Type 0 where
+  Home : Plmn → Entry
+  -- the length of a node name
+  Name : ℕ → Entry
+  Node : Address → Entry
+  Preference : Preferred → Entry
+  Bar : Plmn → Entry
+  -- no entry
+  Bad : Entry
 
 -- `home` and `bar` go on with a PLMN
 unfoldable pub home_entry : Option Plmn → Entry
-home_entry none = Bad
-home_entry (some p) = Home p
+home_entry None = Bad
+home_entry (Some p) = Home p
 
 unfoldable pub bar_entry : Option Plmn → Entry
-bar_entry none = Bad
-bar_entry (some p) = Bar p
+bar_entry None = Bad
+bar_entry (Some p) = Bar p
 
 -- `plmn` goes on with a PLMN and its priority
 unfoldable pub plmn_entry : Option Plmn → Option ℕ → Entry
-plmn_entry none x = Bad
-plmn_entry (some p) none = Bad
-plmn_entry (some p) (some x) = Preference (record { plmn = p; priority = x })
+plmn_entry None x = Bad
+plmn_entry (Some p) None = Bad
+plmn_entry (Some p) (Some x) = Preference (record { plmn = p; priority = x })
 
 -- the octets of a line before a node name: `node`, a tab, `name` and a tab
 unfoldable pub before_name : ℕ
@@ -36,8 +46,8 @@ name_entry l = cond (is_name l) (Name (length l)) Bad
 
 -- a node address is the number that its digits say
 unfoldable pub address_entry : ℕ → Option ℕ → Entry
-address_entry version none = Bad
-address_entry version (some x) = Node (address_of version x)
+address_entry version None = Bad
+address_entry version (Some x) = Node (address_of version x)
 
 -- an address has two hexadecimal digits an octet: 8 for version 4, 32 for version 6
 unfoldable pub version_entry : ℕ → List ℕ → Entry
@@ -70,7 +80,3 @@ entry_of (a ∷ b ∷ c ∷ d ∷ e ∷ fs) = Bad
 -- the fields of a line are parted by one tab
 unfoldable pub line_entry : List ℕ → Entry
 line_entry l = entry_of (pieces tab_code l)
-
--- the numbers of a PLMN have three digits at most
-abbrev pub Small : Plmn → Type 0
-Small p = (p.mcc < 1000) × (p.mnc < 1000)

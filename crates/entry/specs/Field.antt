@@ -1,6 +1,5 @@
 -- Fields of the configuration text.
-use Rattle.std.specs.Prelude.{ℕ, Bool, cond, ◌&&◌, ◌||◌, List, leb, eqb, length}
-use Rattle.std.proofs.Math.Option.{Option, none, some}
+use Rattle.std.specs.Prelude.{ℕ, Bool, cond, ◌&&◌, ◌||◌, List, leb, eqb, length, Option, None, Some}
 use Rattle.octets.specs.Part.{same}
 use Rattle.octets.specs.Search.{all_of}
 use Rattle.text.specs.Text.{read_digits, decimal}
@@ -8,14 +7,14 @@ use Rattle.network.specs.declared.Plmn.{Plmn}
 
 -- a PLMN from its two numbers, where both fields are numbers
 unfoldable pub plmn_from : Option ℕ → Option ℕ → Option Plmn
-plmn_from none n = none
-plmn_from (some m) none = none
-plmn_from (some m) (some n) = some (record { mcc = m; mnc = n })
+plmn_from None n = None
+plmn_from (Some m) None = None
+plmn_from (Some m) (Some n) = Some (record { mcc = m; mnc = n })
 
 -- MCC has three digits, MNC two or three; a PLMN is kept as numbers, so that 01 equals 001
 unfoldable pub plmn_of : List ℕ → List ℕ → Option Plmn
 plmn_of mcc mnc =
-    cond (eqb (length mcc) 3 && (eqb (length mnc) 2 || eqb (length mnc) 3)) (plmn_from (read_digits 10 mcc) (read_digits 10 mnc)) none
+    cond (eqb (length mcc) 3 && (eqb (length mnc) 2 || eqb (length mnc) 3)) (plmn_from (read_digits 10 mcc) (read_digits 10 mnc)) None
 
 -- the greatest number that a priority is
 abbrev pub most_priority : ℕ
@@ -23,8 +22,8 @@ most_priority = 255
 
 -- a number up to the greatest priority that is spelt as it is written in decimal
 unfoldable pub plain : List ℕ → Option ℕ → Option ℕ
-plain l none = none
-plain l (some x) = cond (leb x most_priority && same l (decimal x)) (some x) none
+plain l None = None
+plain l (Some x) = cond (leb x most_priority && same l (decimal x)) (Some x) None
 
 -- a priority is 0 to 255 without leading zeros
 unfoldable pub priority_of : List ℕ → Option ℕ

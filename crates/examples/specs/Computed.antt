@@ -62,10 +62,10 @@ unfolding empty slots_on
     Part.part Part.zeros Part.padded Part.same Part.zeros_at Part.octet_is
     Search.all Search.least Search.all_of Search.any_of Search.distinct
     Refusal.refusal
-    Row.row Row.joined Row.place Row.first Row.keep Row.only Row.is_some
+    Row.row Row.joined Row.place Row.first Row.keep Row.only
     Text.text Text.character Text.digit Text.digit_text Text.is_digit Text.read_digits Text.short_enough Text.decimal_width Text.decimal
     Timer.unit_seconds Timer.timer_of
-    Plmn.same_plmn Plmn.among Plmn.plmn_option
+    Plmn.same_plmn Plmn.among
     Name.operator_name Name.visited_name
     Parameters.well_formed_in Parameters.well_formed Parameters.size
     Packet.code Packet.identifier Packet.length_field Packet.type_field Packet.vendor Packet.vendor_type Packet.message Packet.is_success
@@ -80,13 +80,13 @@ unfolding empty slots_on
     Entry.three Entry.four Entry.entry_of Entry.line_entry
     Lines.last_entry Lines.entries Lines.entries_from Lines.line_end
     Settings.plmn_in Settings.accepted Settings.as_home Settings.as_node Settings.as_listed Settings.taken Settings.section
-    Settings.left Settings.rest Settings.is_end Settings.node_or Settings.first_node Settings.after_node Settings.settle
+    Settings.left Settings.rest Settings.is_end Settings.first_node Settings.after_node Settings.settle
     Settings.with_home Settings.from_home Settings.name_place Settings.config_of
     Addresses.address_octets Addresses.version_from Addresses.address_from Addresses.is_address
     Lists.whole Lists.network_at Lists.network_fits Lists.networks_fit Lists.networks_in Lists.address_at Lists.address_fits Lists.addresses_fit
     Lists.addresses_in
     Gateway.found_at Gateway.choose
-    Preference.has_node Preference.has_plmns Preference.provisioned Preference.barred Preference.unbarred Preference.preferred
+    Preference.has_plmns Preference.provisioned Preference.barred Preference.unbarred Preference.preferred
     Preference.visited Preference.offered Preference.eligible Preference.better Preference.best Preference.network_of Preference.ranked
     Preference.unranked
     Selection.home_abroad Selection.counting Selection.registered Selection.by_node Selection.at_home Selection.direct Selection.abroad
@@ -105,7 +105,7 @@ unfolding empty slots_on
     RulesRefusals.is_above_last RulesRefusals.is_no_pair RulesRefusals.least_event_room RulesRefusals.least_room RulesRefusals.is_short
     RulesRefusals.is_open_already RulesRefusals.is_not_open RulesRefusals.is_full RulesRefusals.is_early
     RulesRefusals.is_long RulesRefusals.is_home_abroad RulesRefusals.waits_home_abroad RulesRefusals.bad_networks RulesRefusals.lacks_parameters
-    RulesRefusals.is_child RulesRefusals.is_out_of_range RulesRefusals.is_malformed RulesRefusals.is_identifier RulesRefusals.is_due
+    RulesRefusals.is_child RulesRefusals.is_out_of_range RulesRefusals.is_some_request RulesRefusals.is_malformed RulesRefusals.is_identifier RulesRefusals.is_due
     RulesRefusals.is_allowed RulesRefusals.is_spi_taken RulesRefusals.has_no_room RulesRefusals.is_held_full
     RulesRefusals.refusals_of RulesRefusals.event_refusals RulesRefusals.refusals
     RecordChanges.current RecordChanges.in_phase RulesLife.goes RulesLife.onward RulesLife.keeps RulesLife.gateway_found RulesLife.name_asked

@@ -1,6 +1,5 @@
 -- Histories of holds, each under the sentence that it shows, and the holds that histories leave.
-use Rattle.std.specs.Prelude.{ℕ, zero, suc, ◌+◌, List, [], ◌∷◌, ◌++◌, map, ◌≡◌, refl}
-use Rattle.std.proofs.Math.Option.{Option, none, some}
+use Rattle.std.specs.Prelude.{false, ℕ, zero, suc, ◌+◌, List, [], ◌∷◌, ◌++◌, map, ◌≡◌, refl, Option, None, Some}
 use Rattle.octets.specs.Row.{joined}
 use Rattle.address.specs.Address.{high, low, version_of}
 use Rattle.address.specs.declared.Address.TheVariants.{V4, V6}
@@ -14,6 +13,7 @@ use Rattle.rules.specs.declared.Action.TheVariants as Action
 use Rattle.rules.specs.Call.{start, begin, init, error, congestion, give_up, Call, opening, closing, timed, pair_of, start_numbers}
 use Rattle.examples.specs.Cases.{acts, at_home, at_home6, congest, declines, done, node, node6, node_at, now, own, to_auth, to_idle, writes}
 use Rattle.examples.specs.Computed.{Example, evaluated, got, said, slots_after}
+use Rattle.selection.specs.declared.Stop.TheVariants as At
 
 -- a start by `node`, where its address is held and where it is free
 unfoldable pub start_at : ℕ → Call
@@ -22,7 +22,7 @@ start_at time = own time (start at_home node 64)
 
 unfoldable pub stops_held : Answer
 unfolding writes
-stops_held = writes 64 (Action.Stopped 4 1) [] []
+stops_held = writes 64 (Action.Stopped At.Address 1) [] []
 
 unfoldable pub chooses_free : Answer
 unfolding writes
@@ -99,7 +99,7 @@ holdings =
       before = to_idle ++ hold_each 1 7;
       calls = congest 100 8 0xE0 ++ start_at 100 ∷ now (start (start_numbers 0 0 0 0 0 4) node 64) ∷ now (start at_home [] 64) ∷ [];
       says =
-          writes 64 (Action.Chose (V4 8) 0) [] [] ∷ acts Action.SendInit ∷ acts Action.SendAuthRequest ∷ acts (Action.Released 0) ∷ declines 64 13 ∷ declines 64 13
+          writes 64 (Action.Chose (V4 8) 0) [] [] ∷ acts Action.SendInit ∷ acts Action.SendAuthRequest ∷ acts (Action.Released false) ∷ declines 64 13 ∷ declines 64 13
           ∷ declines 64 9 ∷ [];
     }
     -- the holds in force at the call's own time are counted
@@ -124,8 +124,8 @@ unfolding end_number
 hold_numbers h = version_of h.address ∷ high h.address ∷ low h.address ∷ end_number h.end ∷ []
 
 unfoldable pub holds_in : Option Line → List Hold
-holds_in none = []
-holds_in (some x) = x.holds
+holds_in None = []
+holds_in (Some x) = x.holds
 
 unfoldable pub kept : List Kept
 unfolding congested_by own start_at to_idle congest

@@ -1,15 +1,15 @@
 -- Octets as documents lay them down: records of the table, packets, AN-parameters, and what the writer of responses refuses.
-use Rattle.std.specs.Prelude.{ℕ, cond, List, [], ◌∷◌, ◌++◌, map, ◌≡◌, refl}
+use Rattle.std.specs.Prelude.{ℕ, cond, List, [], ◌∷◌, ◌++◌, map, ◌≡◌, refl, Option, None, Some, Result, Ok, Err}
 use Rattle.octets.specs.Part.{zeros}
 use Rattle.address.specs.declared.Address.TheVariants.{V4, V6}
 use Rattle.address.specs.declared.End.TheVariants.{At, Never}
 use Rattle.children.specs.Children.{child_from, child_in, child_octets, children_from, children_octets, children_written, spis_differ}
 use Rattle.eap.specs.Packet.{packet_numbers, read_packet}
+use Rattle.eap.specs.declared.Packet.{Packet}
 use Rattle.holds.specs.Holds.{different, end_number, end_of, has_address, hold_from, hold_in, hold_octets, holds_from, holds_octets, holds_written}
-use Rattle.network.specs.declared.MaybePlmn.TheVariants.{Is}
 use Rattle.parameters.specs.Parameters.{parameter_at, size}
 use Rattle.parameters.specs.declared.Parameter.{Parameter}
-use Rattle.parameters.specs.declared.Parameter.TheVariants.{Whole, End, Broken}
+use Rattle.parameters.specs.declared.Broken.{Broken}
 use Rattle.phase.specs.Facts.{facts_fit, facts_from, facts_octets, facts_written, place_fits, place_from, place_octets, place_written, registered_fits, registered_from, registered_octets, registered_written}
 use Rattle.phase.specs.Phase.{asking_octets, having_from, having_octets, phase_fits, phase_from, phase_octets, phase_written, turn_octets}
 use Rattle.phase.specs.declared.Phase.TheVariants.{Country, Eap, Live}
@@ -32,7 +32,7 @@ pub record Layout : Type 0 where
 unfoldable pub waiting : Line
 waiting = record {
   time = 0x01020304;
-  phase = Country (record { place = Abroad 901; registered = Is (record { mcc = 262; mnc = 3 }); version = 6 });
+  phase = Country (record { place = Abroad 901; registered = Some (record { mcc = 262; mnc = 3 }); version = 6 });
   holds = [];
   children = [];
 }
@@ -61,10 +61,15 @@ unfoldable pub entry6 : List ℕ
 entry6 = 6 ∷ 0x20 ∷ 0x01 ∷ 0x0D ∷ 0xB8 ∷ zeros 11 ++ 1 ∷ []
 
 -- an AN-parameter in numbers: 1 and its fields, 0 at the end, 2 where it is broken
-unfoldable pub parameter_numbers : Parameter → List ℕ
-parameter_numbers (Whole type at n next) = 1 ∷ type ∷ at ∷ n ∷ next ∷ []
-parameter_numbers End = 0 ∷ []
-parameter_numbers Broken = 2 ∷ []
+unfoldable pub parameter_numbers : Result (Option Parameter) Broken → List ℕ
+parameter_numbers (Ok (Some p)) = 1 ∷ p.kind ∷ p.start ∷ p.length ∷ p.next ∷ []
+parameter_numbers (Ok None) = 0 ∷ []
+parameter_numbers (Err broken) = 2 ∷ []
+
+-- a packet that is read in six numbers, and zeros where it is none
+unfoldable pub numbers_read : Option Packet → List ℕ
+numbers_read (Some p) = packet_numbers p
+numbers_read None = zeros 6
 
 -- 1 where octets are a sound record
 unfoldable pub judged : List ℕ → List ℕ
@@ -75,7 +80,7 @@ unfoldable pub judged_slot : List ℕ → List ℕ
 judged_slot l = cond (slot_sound l 0) 1 0 ∷ []
 
 unfoldable pub layouts : List Layout
-unfolding alive first_reply entry4 in_eap judged judged_slot nas nas_packet parameter_numbers entry6 start_packet success waiting
+unfolding alive first_reply entry4 in_eap judged judged_slot nas nas_packet numbers_read parameter_numbers entry6 start_packet success waiting
 layouts =
     -- a record: pair, time, phase with its data, count of holds, count of children, holds, children
     record {
@@ -120,13 +125,13 @@ layouts =
     ∷ record { gives = judged_slot (0 ∷ 1 ∷ zeros 241); says = 0 ∷ [] }
     ∷ record { gives = judged_slot (zeros 242 ++ 1 ∷ []); says = 0 ∷ [] }
     -- a packet in six numbers, with spare and extensions ignored
-    ∷ record { gives = packet_numbers (read_packet (start_packet 7)); says = 1 ∷ 7 ∷ zeros 4 }
-    ∷ record { gives = packet_numbers (read_packet (nas_packet 8)); says = 2 ∷ 8 ∷ 0 ∷ 0 ∷ 16 ∷ 2 ∷ [] }
-    ∷ record { gives = packet_numbers (read_packet (success 9)); says = 3 ∷ 9 ∷ zeros 4 }
-    ∷ record { gives = packet_numbers (read_packet first_reply); says = 2 ∷ 7 ∷ 16 ∷ 3 ∷ 21 ∷ 1 ∷ [] }
+    ∷ record { gives = numbers_read (read_packet (start_packet 7)); says = 1 ∷ 7 ∷ zeros 4 }
+    ∷ record { gives = numbers_read (read_packet (nas_packet 8)); says = 2 ∷ 8 ∷ 0 ∷ 0 ∷ 16 ∷ 2 ∷ [] }
+    ∷ record { gives = numbers_read (read_packet (success 9)); says = 3 ∷ 9 ∷ zeros 4 }
+    ∷ record { gives = numbers_read (read_packet first_reply); says = 2 ∷ 7 ∷ 16 ∷ 3 ∷ 21 ∷ 1 ∷ [] }
     ∷ record {
       gives =
-          packet_numbers
+          numbers_read
           (read_packet
           (0x02 ∷ 0x07 ∷ 0x00 ∷ 0x14 ∷ 0xFE ∷ 0x00 ∷ 0x28 ∷ 0xAF ∷ 0x00 ∷ 0x00 ∷ 0x00 ∷ 0x03 ∷ 0x02 ∷ 0x01 ∷ 0x00 ∷ 0x00 ∷ 0x00 ∷ 0x01 ∷ 0x7E ∷ 0xAA
           ∷ []));

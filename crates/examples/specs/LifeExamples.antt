@@ -1,5 +1,5 @@
 -- Histories of 'Life of a line' and 'Listing of one tenant', each under the sentence that it shows.
-use Rattle.std.specs.Prelude.{ℕ, List, [], ◌∷◌, ◌++◌, map, ◌≡◌, refl}
+use Rattle.std.specs.Prelude.{ℕ, true, false, List, [], ◌∷◌, ◌++◌, map, ◌≡◌, refl}
 use Prim.Native.String.{String}
 use Rattle.octets.specs.Row.{joined, row}
 use Rattle.address.specs.Address.{high, low, number_of, version_of}
@@ -11,6 +11,7 @@ use Rattle.examples.specs.Cases.{acts, at_home, at_home6, congest, declined, don
 use Rattle.examples.specs.Computed.{Example, got, said}
 use Rattle.examples.specs.FormExamples.{make_child}
 use Rattle.examples.specs.HoldExamples.{hold_each}
+use Rattle.selection.specs.declared.Stop.TheVariants as At
 
 -- a line stands as the listing shows it
 unfoldable pub standing : List Call → String → Example
@@ -102,8 +103,8 @@ lives =
           writes 64 (Action.Chose (V4 0xc0000207) 0) [] [] ∷ acts Action.SendInit ∷ acts Action.SendAuthRequest ∷ acts Action.AskNas
           ∷ writes 3090 (Action.SendResponse 22) [] first_reply ∷ writes 0 (Action.HandUp 16 2) (0x7E ∷ 0x01 ∷ []) []
           ∷ writes 3090 (Action.SendResponse 19) [] later_reply ∷ acts Action.SendAuth ∷ acts Action.Live ∷ acts Action.Nothing ∷ acts Action.Nothing
-          ∷ acts Action.Nothing ∷ lists (shown "line|0|live|c0000207|1" ++ shown "child|0|00000100|15") ∷ acts (Action.Released 0)
-          ∷ writes 64 (Action.Stopped 4 1) [] [] ∷ [];
+          ∷ acts Action.Nothing ∷ lists (shown "line|0|live|c0000207|1" ++ shown "child|0|00000100|15") ∷ acts (Action.Released false)
+          ∷ writes 64 (Action.Stopped At.Address 1) [] [] ∷ [];
     }
     -- seven holds refuse none either
     ∷ record {
@@ -171,15 +172,15 @@ lives =
     ∷ standing to_sure "line|0|sure|c0000207|0"
     ∷ standing to_live "line|0|live|c0000207|0"
     -- final answer, AUTH bad: idle, released
-    ∷ ending to_sure (final 0) (Action.Released 0)
+    ∷ ending to_sure (final 0) (Action.Released false)
     -- error notify 1 to 16,383: idle, error up, EAP ended if eap
-    ∷ ending to_auth (error 1) (Action.ErrorUp 0 1)
-    ∷ ending to_first (error 24) (Action.ErrorUp 1 24)
-    ∷ ending to_sure (error 16383) (Action.ErrorUp 0 16383)
+    ∷ ending to_auth (error 1) (Action.ErrorUp false 1)
+    ∷ ending to_first (error 24) (Action.ErrorUp true 24)
+    ∷ ending to_sure (error 16383) (Action.ErrorUp false 16383)
     -- congestion: idle, released, EAP ended if eap
-    ∷ ending to_auth (congestion 1 0x61) (Action.Released 0)
-    ∷ ending to_answered (congestion 1 0x61) (Action.Released 1)
-    ∷ ending to_sure (congestion 1 0x61) (Action.Released 0)
+    ∷ ending to_auth (congestion 1 0x61) (Action.Released false)
+    ∷ ending to_answered (congestion 1 0x61) (Action.Released true)
+    ∷ ending to_sure (congestion 1 0x61) (Action.Released false)
     -- give up: idle, with no action
     ∷ ending to_country give_up Action.Nothing
     ∷ ending to_name give_up Action.Nothing
@@ -189,7 +190,7 @@ lives =
     ∷ ending to_first give_up Action.Nothing
     ∷ ending to_sure give_up Action.Nothing
     -- IKE delete: idle, no child, released
-    ∷ ending to_children ike_delete (Action.Released 0)
+    ∷ ending to_children ike_delete (Action.Released false)
     -- EAP NAS has the identifier of its response, and Success has to have that of the last reply
     ∷ record {
       before = to_answered;
@@ -223,11 +224,11 @@ lives_computed = refl
 -- every action in the order of the numbers that name actions, and last a listing, whose number is 0
 unfoldable pub actions : List Action
 actions =
-    Action.Nothing ∷ Action.Stopped 4 2 ∷ Action.AskCountry 52 ∷ Action.AskText 22 13 ∷ Action.AskBuilt 43 ∷ Action.Chose (V4 5) 2 ∷ Action.Chose (V6 8 9) 1 ∷ Action.SendInit ∷ Action.SendAuthRequest
-    ∷ Action.AskNas ∷ Action.HandUp 16 3 ∷ Action.SendResponse 19 ∷ Action.SendAuth ∷ Action.Live ∷ Action.Released 1 ∷ Action.ErrorUp 1 24 ∷ Action.Listed 42
+    Action.Nothing ∷ Action.Stopped At.Address 2 ∷ Action.AskCountry 52 ∷ Action.AskText 22 13 ∷ Action.AskBuilt 43 ∷ Action.Chose (V4 5) 2 ∷ Action.Chose (V6 8 9) 1 ∷ Action.SendInit ∷ Action.SendAuthRequest
+    ∷ Action.AskNas ∷ Action.HandUp 16 3 ∷ Action.SendResponse 19 ∷ Action.SendAuth ∷ Action.Live ∷ Action.Released true ∷ Action.ErrorUp true 24 ∷ Action.Listed 42
     -- and once more with other numbers
-    ∷ Action.Stopped 3 16 ∷ Action.AskCountry 51 ∷ Action.AskText 5 253 ∷ Action.AskBuilt 42 ∷ Action.Chose (V4 7) 15 ∷ Action.HandUp 18 2048 ∷ Action.SendResponse 3090 ∷ Action.Released 0
-    ∷ Action.ErrorUp 0 16383 ∷ Action.Listed 1024 ∷ []
+    ∷ Action.Stopped At.Barred 16 ∷ Action.AskCountry 51 ∷ Action.AskText 5 253 ∷ Action.AskBuilt 42 ∷ Action.Chose (V4 7) 15 ∷ Action.HandUp 18 2048 ∷ Action.SendResponse 3090 ∷ Action.Released false
+    ∷ Action.ErrorUp false 16383 ∷ Action.Listed 1024 ∷ []
 
 -- the twelve numbers of each
 unfoldable pub action_numbers : List (List ℕ)

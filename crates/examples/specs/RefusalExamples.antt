@@ -11,6 +11,7 @@ use Rattle.rules.specs.declared.StartNumbers.{StartNumbers}
 use Rattle.examples.specs.Cases.{abroad, acts, at_home, declined, declines, denied, done, first_reply, lists, nas, network, node, now, own, parameters, plain, roaming, shown, to_chosen, to_country, to_first, to_idle, to_live, to_name, to_sure, writes, registered_to}
 use Rattle.examples.specs.Computed.{Example, got, said}
 use Rattle.examples.specs.HoldExamples.{hold_each}
+use Rattle.selection.specs.declared.Stop.TheVariants as At
 
 -- each of the 64 pairs is opened by its number
 unfoldable pub open_pair : ℕ → Call
@@ -49,7 +50,7 @@ lowest =
           declines 63 3
           ∷ writes 64 (Action.AskCountry 52) (text "n3iwf.5gc.mcc901.visited-country.pub.3gppnetwork.org")
           (text "n3iwf.5gc.mcc901.visited-country.pub.3gppnetwork.org")
-          ∷ declines 63 3 ∷ writes 64 (Action.Stopped 2 0) [] [] ∷ declines 1023 3 ∷ lists (shown "line|0|idle|-|0") ∷ [];
+          ∷ declines 63 3 ∷ writes 64 (Action.Stopped At.NoReply 0) [] [] ∷ declines 1023 3 ∷ lists (shown "line|0|idle|-|0") ∷ [];
     }
     ∷ record {
       before = to_first;

@@ -14,6 +14,7 @@ use Rattle.rules.specs.declared.StartNumbers.{StartNumbers}
 use Rattle.examples.specs.Cases.{abroad, abroad6, acts, at_home, at_home6, congest, named, network, node, node6, now, plain, registered_to, roaming, shown, to_idle, to_name, writes}
 use Rattle.examples.specs.Computed.{Example, got, said}
 use Rattle.examples.specs.FormExamples.{bar_record, plmn_record}
+use Rattle.selection.specs.declared.Stop.TheVariants as At
 
 -- a stop and a choice leave the name buffer all zeros and the part empty; a built name is both the part and what is written
 unfoldable pub gives : Action → Answer
@@ -79,10 +80,10 @@ unfolding abroad abroad6 answering answering_by asks asks_country at_home at_hom
     plain preferring registered_to roaming shown starting starts starts_abroad to_idle to_name writes
 selections =
     -- S1, place unknown: stop 1
-    starting (start_numbers 0 0 0 0 0 4) node (gives (Action.Stopped 1 0))
+    starting (start_numbers 0 0 0 0 0 4) node (gives (Action.Stopped At.Place 0))
     -- S2, home: a `node` address is treated as an answer list of one
     ∷ starting at_home node (gives (Action.Chose (V4 0xc0000207) 0))
-    ∷ starting at_home6 node (gives (Action.Stopped 4 1))
+    ∷ starting at_home6 node (gives (Action.Stopped At.Address 1))
     -- a `node` name is asked, as the part of the text that holds it, and the name buffer is all zeros
     ∷ starting at_home named (writes 64 (Action.AskText 22 13) (text "n3iwf.example") [])
     -- whatever PLMN is registered to, also one with a `plmn` record
@@ -116,7 +117,7 @@ selections =
     ∷ starting (registered_to 901 9) roaming (asks_country "n3iwf.5gc.mcc901.visited-country.pub.3gppnetwork.org")
     ∷ starting (registered_to 262 1) (plain ++ shown "plmn|262|01|0") (asks_country "n3iwf.5gc.mcc901.visited-country.pub.3gppnetwork.org")
     -- no reply: stop 2, and not "no PLMN"
-    ∷ answering (abroad 901) roaming 0 [] (gives (Action.Stopped 2 0))
+    ∷ answering (abroad 901) roaming 0 [] (gives (Action.Stopped At.NoReply 0))
     -- none: the best of the `plmn` records with the visited MCC and not barred, the earlier record on a tie
     ∷ answering (abroad 901) roaming 1 [] (asks "n3iwf.5gc.mnc002.mcc901.pub.3gppnetwork.org")
     -- and not the registered PLMN
@@ -145,9 +146,9 @@ selections =
     ∷ answering (abroad 901) (named ++ shown "plmn|902|01|0") 1 [] (writes 64 (Action.AskText 22 13) (text "n3iwf.example") [])
     ∷ answering (abroad 901) (named ++ shown "plmn|901|04|0" ++ shown "bar|901|04") 1 [] (writes 64 (Action.AskText 22 13) (text "n3iwf.example") [])
     -- a `node` address that is not permitted is stop 4 with 1 passed over, here too
-    ∷ answering (abroad6 901) node 1 [] (gives (Action.Stopped 4 1))
-    ∷ answering (abroad6 903) (node ++ shown "plmn|901|01|5") 1 [] (gives (Action.Stopped 4 1))
-    ∷ answering (abroad 901) node6 1 [] (gives (Action.Stopped 4 1))
+    ∷ answering (abroad6 901) node 1 [] (gives (Action.Stopped At.Address 1))
+    ∷ answering (abroad6 903) (node ++ shown "plmn|901|01|5") 1 [] (gives (Action.Stopped At.Address 1))
+    ∷ answering (abroad 901) node6 1 [] (gives (Action.Stopped At.Address 1))
     -- one or more: the registered PLMN if listed and not barred
     ∷ answering (registered_to 901 9) roaming 1 (network 901 2 ++ network 901 9) (asks "n3iwf.5gc.mnc009.mcc901.pub.3gppnetwork.org")
     ∷ answering (registered_to 901 4) roaming 1 (network 901 4 ++ network 901 1) (asks "n3iwf.5gc.mnc001.mcc901.pub.3gppnetwork.org")
@@ -172,12 +173,12 @@ selections =
     ∷ answering (abroad 901) roaming 1 (network 901 8 ++ network 902 1) (asks "n3iwf.5gc.mnc001.mcc902.pub.3gppnetwork.org")
     -- else the first listed unbarred one, else stop 3
     ∷ answering (abroad 901) roaming 1 (network 901 4 ++ network 901 8 ++ network 901 7) (asks "n3iwf.5gc.mnc008.mcc901.pub.3gppnetwork.org")
-    ∷ answering (abroad 901) roaming 1 (network 901 4) (gives (Action.Stopped 3 0))
+    ∷ answering (abroad 901) roaming 1 (network 901 4) (gives (Action.Stopped At.Barred 0))
     -- the last of 16 `bar` records counts, and so does the last of 16 listed PLMNs
     ∷ answering_by (network 901 115 ++ network 901 7) (plain ++ barring) (asks "n3iwf.5gc.mnc007.mcc901.pub.3gppnetwork.org")
     ∷ answering_by (joined (network 901) (row (λ k. k) 200 15) ++ network 901 7) (plain ++ barring) (asks "n3iwf.5gc.mnc007.mcc901.pub.3gppnetwork.org")
     -- a barred home PLMN that the country answer lists is barred
-    ∷ answering (abroad 901) (plain ++ shown "bar|262|01") 1 (network 262 1) (gives (Action.Stopped 3 0))
+    ∷ answering (abroad 901) (plain ++ shown "bar|262|01") 1 (network 262 1) (gives (Action.Stopped At.Barred 0))
     -- S5: the first with the local IP version is chosen, and the answer says how many were passed over
     ∷ choosing to_name (V4 0xc0000207 ∷ V4 0xc0000208 ∷ []) (Action.Chose (V4 0xc0000207) 0)
     -- the first, and not a later one, also where some were passed over
@@ -207,9 +208,9 @@ selections =
     ∷ choosing (starts_abroad (abroad 901) plain) (V6 1 3 ∷ V4 0xc0000207 ∷ []) (Action.Chose (V4 0xc0000207) 1)
     ∷ choosing (starts (start_numbers 2 901 1 901 2 6) roaming) (V4 0xc0000207 ∷ V6 1 3 ∷ []) (Action.Chose (V6 1 3) 1)
     -- if there is none, stop 4 with all of them passed over
-    ∷ choosing to_name [] (Action.Stopped 4 0)
-    ∷ choosing to_name (V6 1 2 ∷ V6 1 3 ∷ []) (Action.Stopped 4 2)
-    ∷ choosing to_name (replicate 16 (V6 1 2)) (Action.Stopped 4 16)
+    ∷ choosing to_name [] (Action.Stopped At.Address 0)
+    ∷ choosing to_name (V6 1 2 ∷ V6 1 3 ∷ []) (Action.Stopped At.Address 2)
+    ∷ choosing to_name (replicate 16 (V6 1 2)) (Action.Stopped At.Address 16)
     -- one on hold is passed over
     ∷ choosing (to_idle ++ congest 100 0xc0000207 0xE0 ++ now (start at_home named 64) ∷ []) (V4 0xc0000207 ∷ V4 0xc0000208 ∷ [])
     (Action.Chose (V4 0xc0000208) 1)

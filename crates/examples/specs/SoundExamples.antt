@@ -1,5 +1,5 @@
 -- Lines on both sides of each condition of a sound line ('The table and who sits in it'), each under the sentence that it shows.
-use Rattle.std.specs.Prelude.{ℕ, Bool, true, false, List, [], ◌∷◌, ◌++◌, map, ◌≡◌, refl}
+use Rattle.std.specs.Prelude.{ℕ, Bool, true, false, List, [], ◌∷◌, ◌++◌, map, ◌≡◌, refl, Option, None, Some}
 use Rattle.octets.specs.Row.{row}
 use Rattle.octets.specs.Search.{all_of, any_of, distinct}
 use Rattle.address.specs.Address.{address_in, is_version, number_of, same_address, stands, version_of}
@@ -10,8 +10,7 @@ use Rattle.address.specs.declared.Hold.{Hold}
 use Rattle.children.specs.Children.{child_fits, is_spi, same_spi, spis_differ}
 use Rattle.children.specs.declared.Child.{Child}
 use Rattle.holds.specs.Holds.{different, end_after, ends_after}
-use Rattle.network.specs.declared.MaybePlmn.{MaybePlmn}
-use Rattle.network.specs.declared.MaybePlmn.TheVariants.{Is, None}
+use Rattle.network.specs.declared.Plmn.{Plmn}
 use Rattle.phase.specs.Chosen.{chosen}
 use Rattle.phase.specs.Facts.{facts_fit, place_fits, registered_fits}
 use Rattle.phase.specs.Phase.{is_abroad, phase_fits}
@@ -26,11 +25,11 @@ use Rattle.record.specs.Line.{Line}
 use Rattle.record.specs.Sound.{children_sound, chosen_free, holds_sound, in_range, line_sound}
 
 -- place facts, a registered PLMN, a hold without end, holds for n addresses, a child, and n children with session 1
-unfoldable pub facts : Place → MaybePlmn → ℕ → Facts
+unfoldable pub facts : Place → Option Plmn → ℕ → Facts
 facts place registered version = record { place = place; registered = registered; version = version }
 
-unfoldable pub plmn : ℕ → ℕ → MaybePlmn
-plmn mcc mnc = Is (record { mcc = mcc; mnc = mnc })
+unfoldable pub plmn : ℕ → ℕ → Option Plmn
+plmn mcc mnc = Some (record { mcc = mcc; mnc = mnc })
 
 unfoldable pub held_always : Address → Hold
 held_always a = record { address = a; end = Never }

@@ -1,20 +1,20 @@
 -- A node name at a place of a text, by the place where its characters end.
 use Prim.Native.Nat.{ℕ, ◌+◌, ◌-◌, ◌≤◌, ◌<◌}
-use mathlib.Core.Bool.{true, false, not, ◌&&◌, ◌||◌, true≢false, false≢true}
+use mathlib.Core.Bool.{true, false, ◌&&◌, ◌||◌, true≢false, false≢true}
 use mathlib.Core.List.{List, ◌∷◌, ◌++◌}
 use mathlib.Core.Path.{◌≡◌, refl, sym, ap, ◌∙◌}
 use native.Mathlib.Omega.{arith}
-use lib.Dec.{eqb, leb, ltb}
+use lib.Dec.{leb, ltb}
 use lib.ListN.{length, get_or, drop, get_or-append}
 use lib.Seq.{get_or-drop}
-use borrow.Author.Tests.{eq-eqb, eqb-true, leb-true, le-ltb, ltb-false, not-false}
+use borrow.Author.Tests.{leb-true, le-ltb, ltb-false}
 use Rattle.octets.specs.Part.{part}
 use Rattle.octets.specs.Search.{all_of}
 use Rattle.octets.proofs.Parts.{length_part}
 use Rattle.octets.proofs.Search.{and_left, and_right, lower, or_left, or_right}
 use Rattle.entry.specs.Field.{is_name, is_name_character}
-use Rattle.fields.specs.Read.{NameEndIs}
-use Rattle.fields.proofs.Places.{each_passes, field_at, passes_each}
+use Rattle.fields.specs.Read.{IsField, NameEndIs}
+use Rattle.fields.proofs.Places.{each_passes, field_at, field_stands, passes_each}
 use Rattle.fields.proofs.Readings.{name_is}
 
 -- the parts of a test that passes
@@ -32,12 +32,6 @@ name_field f e =
       high = leb-true (length f) 253 (and_right (leb 1 (length f)) (leb (length f) 253) sized);
       each = and_right (leb 1 (length f) && leb (length f) 253) (all_of is_name_character f) e;
     }
-
--- a length and the octet behind it are a name's
-pub name_fits : (n v : ℕ) → (ltb n 1 || ltb 253 n) || not (eqb v 10) ≡ false → (1 ≤ n) × (n ≤ 253) × (v ≡ 10)
-name_fits n v h =
-    let sized = or_left (ltb n 1 || ltb 253 n) (not (eqb v 10)) h in
-    (ltb-false n 1 (or_left (ltb n 1) (ltb 253 n) sized), ltb-false 253 n (or_right (ltb n 1) (ltb 253 n) sized), eqb-true v 10 (not-false (eqb v 10) (or_right (ltb n 1 || ltb 253 n) (not (eqb v 10)) h)))
 
 module _ (l : List ℕ) (at r : ℕ) (inside : at ≤ length l) (ends : NameEndIs l at r) where
   -- no name stands there
@@ -60,20 +54,26 @@ module _ (l : List ℕ) (at r : ℕ) (inside : at ≤ length l) (ends : NameEndI
       (λ h. lower (at + length f) r (λ k. absurd (false≢true (ap is_name_character (sym here.ends) ∙ ends.passed (at + length f) (omega arith) k))) (λ k. omega arith)) in
       (place, omega arith, ap (λ (k : ℕ). get_or l k 0) place ∙ here.ends)
 
-  pub name_unended : r ≡ length l → NoName
-  name_unended h f m e s = omega (arith, (ends_there f m e (name_field f s)).1)
+  -- octets that are no name
+  pub no_end : (r < length l → get_or l r 0 ≡ 10 → ⊥) → NoName
+  no_end h f m e s = let here = ends_there f m e (name_field f s) in h here.1 here.2
 
-  pub name_ill : (n : ℕ) → at + n ≡ r → (ltb n 1 || ltb 253 n) || not (eqb (get_or l r 0) 10) ≡ true → NoName
-  name_ill n place h f m e s =
+  pub no_length : ltb (r - at) 1 || ltb 253 (r - at) ≡ true → NoName
+  no_length h f m e s =
       let field = name_field f s in
-      let known = ends_there f m e field in
-      let low : 1 ≤ n = omega (arith, known.0, field.low) in
-      let high : n ≤ 253 = omega (arith, known.0, field.high) in
-      false≢true (sym (rw (le-ltb n 1 low, le-ltb 253 n high, eq-eqb (get_or l r 0) 10 known.2)) ∙ h)
+      let here = ends_there f m e field in
+      false≢true (sym (rw (le-ltb (r - at) 1 (omega (arith, here.0, field.low)), le-ltb 253 (r - at) (omega (arith, here.0, field.high)))) ∙ h)
 
-  -- the name
-  pub name_stands : (n : ℕ) → at + n ≡ r → 1 ≤ n → n ≤ 253 → is_name (part l at n) ≡ true
-  name_stands n place low high =
-      let size = length_part l at n (omega (arith, ends.within)) in
-      name_is (part l at n) (omega arith) (omega arith)
-      ∙ each_passes is_name_character l at n (omega (arith, ends.within)) (λ i h. ends.passed (at + i) (omega arith) (omega arith))
+  -- the name, its length and the newline that ends it
+  pub name_stands : ltb (r - at) 1 || ltb 253 (r - at) ≡ false → r < length l → get_or l r 0 ≡ 10
+      → IsField l at (part l at (r - at)) 10 (r + 1) × (is_name (part l at (r - at)) ≡ true) × (r - at ≡ length (part l at (r - at)))
+  name_stands h inside newline =
+      let place : at + (r - at) ≡ r = omega (arith, ends.after) in
+      let low = ltb-false (r - at) 1 (or_left (ltb (r - at) 1) (ltb 253 (r - at)) h) in
+      let high = ltb-false 253 (r - at) (or_right (ltb (r - at) 1) (ltb 253 (r - at)) h) in
+      let size = length_part l at (r - at) (omega (arith, ends.within)) in (
+        record { is = field_stands l at (r - at) 10 r (r + 1) place refl (omega arith) newline; within = omega arith; after = omega (arith, ends.after) },
+        name_is (part l at (r - at)) (omega arith) (omega arith)
+            ∙ each_passes is_name_character l at (r - at) (omega (arith, ends.within)) (λ i k. ends.passed (at + i) (omega arith) (omega arith)),
+        sym size,
+      )

@@ -1,8 +1,8 @@
 -- What fields say, from their characters.
+use Rattle.std.specs.Prelude.{Some}
 use Prim.Native.Nat.{ℕ, ◌*◌, ◌≤◌}
 use mathlib.Core.Bool.{Bool, true, false, ◌||◌}
 use mathlib.Core.List.{List}
-use mathlib.Core.Option.{Option, none, some}
 use mathlib.Core.Path.{◌≡◌, refl, sym, ap, ◌∙◌, subst}
 use native.Mathlib.Omega.{arith}
 use lib.Dec.{ltb, eqb}
@@ -11,24 +11,11 @@ use borrow.Author.Tests.{le-leb, eq-eqb, ne_eqb, ltb-true, ltb-false}
 use Rattle.octets.specs.Part.{same}
 use Rattle.octets.specs.Search.{all_of}
 use Rattle.octets.proofs.Parts.{equal_same}
-use Rattle.text.specs.Text.{read_digits, number_read, digit_text, decimal, decimal_width}
-use Rattle.text.specs.declared.Reading.{Reading}
-use Rattle.text.specs.declared.Reading.TheVariants.{Number, NotDigits}
+use Rattle.text.specs.Text.{read_digits, digit_text, decimal, decimal_width}
 use Rattle.text.proofs.Texts.{write_text}
 use Rattle.address.specs.Address.{address_of, width_of}
-use Rattle.entry.specs.Entry.{address_entry, version_entry}
+use Rattle.entry.specs.Entry.{address_entry, version_entry, Node}
 use Rattle.entry.specs.Field.{plmn_from, plmn_of, plain, priority_of, is_name, is_name_character, most_priority, most_name}
-use Rattle.entry.specs.declared.Entry.TheVariants.{Node}
-
--- what a reading of a part says
-module _ (o : Option ℕ) (r : Reading) (read : number_read r ≡ o) where
-  pub said : {x : ℕ} → r ≡ Number x → o ≡ some x
-  unfolding number_read
-  said e = sym read ∙ ap number_read e
-
-  pub unsaid : r ≡ NotDigits → o ≡ none
-  unfolding number_read
-  unsaid e = sym read ∙ ap number_read e
 
 -- a PLMN from its two numbers
 module _ (a b : List ℕ) (three : length a ≡ 3) (two : 2 ≤ length b) (most : length b ≤ 3) where
@@ -41,18 +28,18 @@ module _ (a b : List ℕ) (three : length a ≡ 3) (two : 2 ≤ length b) (most 
           let f = ltb-false (length b) 3 e in
           simp (ne_eqb (length b) 2 (λ q. omega arith), eq-eqb (length b) 3 (omega arith))
 
-  pub plmn_is : {m n : ℕ} → read_digits 10 a ≡ some m → read_digits 10 b ≡ some n → some (record { mcc = m; mnc = n }) ≡ plmn_of a b
+  pub plmn_is : {m n : ℕ} → read_digits 10 a ≡ Some m → read_digits 10 b ≡ Some n → Some (record { mcc = m; mnc = n }) ≡ plmn_of a b
   unfolding plmn_of plmn_from
   plmn_is e f = sym (simp (eq-eqb (length a) 3 three, two_or_three, e, f))
 
 -- a field that is read as x and as long as its decimal form is that form
-module _ (l : List ℕ) (x : ℕ) (reads : read_digits 10 l ≡ some x) where
+module _ (l : List ℕ) (x : ℕ) (reads : read_digits 10 l ≡ Some x) where
   spelt : length l ≡ decimal_width x → same l (decimal x) ≡ true
   unfolding decimal
   spelt e =
       subst (λ (m : List ℕ). same l m ≡ true) (sym (write_text 10 x l (omega arith) reads) ∙ ap (λ (n : ℕ). digit_text 10 n x) e) (equal_same l)
 
-  pub priority_is : x ≤ most_priority → length l ≡ decimal_width x → some x ≡ priority_of l
+  pub priority_is : x ≤ most_priority → length l ≡ decimal_width x → Some x ≡ priority_of l
   unfolding priority_of plain
   priority_is h e = simp (reads, le-leb x most_priority h, spelt e)
 
@@ -62,6 +49,6 @@ unfolding is_name
 name_is l h k = simp (le-leb 1 (length l) h, le-leb (length l) most_name k)
 
 -- an address from its number
-pub by_digits : (version : ℕ) (l : List ℕ) → length l ≡ 2 * width_of version → {x : ℕ} → read_digits 16 l ≡ some x → Node (address_of version x) ≡ version_entry version l
+pub by_digits : (version : ℕ) (l : List ℕ) → length l ≡ 2 * width_of version → {x : ℕ} → read_digits 16 l ≡ Some x → Node (address_of version x) ≡ version_entry version l
 unfolding version_entry address_entry
 by_digits version l size e = rw (eq-eqb (length l) (2 * width_of version) size, e)

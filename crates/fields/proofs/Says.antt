@@ -1,9 +1,9 @@
 -- What an entry says of the fields of its line.
+use Rattle.std.specs.Prelude.{Option, None, Some}
 use Prim.Native.Nat.{ℕ, ◌*◌}
 use mathlib.Core.Bool.{Bool, true, false, cond}
 use mathlib.Core.List.{List, [], ◌∷◌, ◌++◌}
 use mathlib.Core.Logic.{◌⊎◌, inl, inr}
-use mathlib.Core.Option.{Option, none, some}
 use mathlib.Core.Path.{◌≡◌, refl, ap, ◌∙◌}
 use lib.Dec.{eqb}
 use lib.ListN.{length}
@@ -13,20 +13,18 @@ use Rattle.octets.proofs.Parts.{same_equal}
 use Rattle.text.specs.Text.{text, read_digits}
 use Rattle.network.specs.declared.Plmn.{Plmn}
 use Rattle.address.specs.Address.{width_of}
-use Rattle.entry.specs.Entry.{address_entry, bar_entry, entry_of, four, home_entry, line_entry, name_entry, node_entry, plmn_entry, three, version_entry}
+use Rattle.entry.specs.Entry.{address_entry, bar_entry, entry_of, four, home_entry, line_entry, name_entry, node_entry, plmn_entry, three, version_entry, Entry, Home, Name, Node, Preference, Bar, Bad}
 use Rattle.entry.specs.Field.{is_name, plmn_of, priority_of}
 use Rattle.entry.specs.Pieces.{pieces}
-use Rattle.entry.specs.declared.Entry.{Entry}
-use Rattle.entry.specs.declared.Entry.TheVariants.{Home, Name, Node, Preference, Bar, Bad}
 use Rattle.fields.proofs.Joins.{Free, begins, piece_alone, piece_ends}
 
 -- a PLMN follows a word
 abbrev pub Network : List ℕ → List (List ℕ) → Plmn → Type 0
-Network w ps p = (a : List ℕ) × (b : List ℕ) × (ps ≡ w ∷ a ∷ b ∷ []) × (plmn_of a b ≡ some p)
+Network w ps p = (a : List ℕ) × (b : List ℕ) × (ps ≡ w ∷ a ∷ b ∷ []) × (plmn_of a b ≡ Some p)
 
 -- an address follows a word
 abbrev pub Digits : ℕ → List ℕ → List (List ℕ) → Type 0
-Digits version k ps = (f : List ℕ) × (x : ℕ) × (ps ≡ text "node" ∷ k ∷ f ∷ []) × (length f ≡ 2 * width_of version) × (read_digits 16 f ≡ some x)
+Digits version k ps = (f : List ℕ) × (x : ℕ) × (ps ≡ text "node" ∷ k ∷ f ∷ []) × (length f ≡ 2 * width_of version) × (read_digits 16 f ≡ Some x)
 
 -- the fields of a line that says an entry
 abbrev pub Says : List (List ℕ) → Entry → Type 0
@@ -34,7 +32,7 @@ Says ps (Home p) = Network (text "home") ps p
 Says ps (Name n) = (f : List ℕ) × (ps ≡ text "node" ∷ text "name" ∷ f ∷ []) × (is_name f ≡ true)
 Says ps (Node a) = Digits 4 (text "v4") ps ⊎ Digits 6 (text "v6") ps
 Says ps (Preference x) =
-    (a : List ℕ) × (b : List ℕ) × (c : List ℕ) × (ps ≡ text "plmn" ∷ a ∷ b ∷ c ∷ []) × (plmn_of a b ≡ some x.plmn) × (priority_of c ≡ some x.priority)
+    (a : List ℕ) × (b : List ℕ) × (c : List ℕ) × (ps ≡ text "plmn" ∷ a ∷ b ∷ c ∷ []) × (plmn_of a b ≡ Some x.plmn) × (priority_of c ≡ Some x.priority)
 Says ps (Bar p) = Network (text "bar") ps p
 Says ps Bad = Unit {0}
 
@@ -46,10 +44,10 @@ module _ (w a b : List ℕ) where
   first m e = ap (λ (l : List ℕ). l ∷ a ∷ b ∷ []) (same_equal w m e)
 
   -- `home` and `bar` say a PLMN where the fields behind the word do
-  network_said : (m : List ℕ) (entry : Option Plmn → Entry) → Says fields (entry none) → ((p : Plmn) → Network m fields p → Says fields (entry (some p)))
+  network_said : (m : List ℕ) (entry : Option Plmn → Entry) → Says fields (entry None) → ((p : Plmn) → Network m fields p → Says fields (entry (Some p)))
       → same w m ≡ true → (o : Option Plmn) → plmn_of a b ≡ o → Says fields (entry o)
-  network_said m entry unsaid says e none h = unsaid
-  network_said m entry unsaid says e (some p) h = says p (a, b, first m e, h)
+  network_said m entry unsaid says e None h = unsaid
+  network_said m entry unsaid says e (Some p) h = says p (a, b, first m e, h)
 
   module _ (node : same w (text "node") ≡ true) where
     both : (m : List ℕ) → same a m ≡ true → fields ≡ text "node" ∷ m ∷ b ∷ []
@@ -63,8 +61,8 @@ module _ (w a b : List ℕ) where
     address_said : (version : ℕ) (m : List ℕ) → (Digits version m fields → Digits 4 (text "v4") fields ⊎ Digits 6 (text "v6") fields) → same a m ≡ true
         → (t : Bool) → eqb (length b) (2 * width_of version) ≡ t → (o : Option ℕ) → read_digits 16 b ≡ o → Says fields (cond t (address_entry version o) Bad)
     unfolding address_entry
-    address_said version m says e true h none k = tt
-    address_said version m says e true h (some x) k = says (b, x, both m e, eqb-true (length b) (2 * width_of version) h, k)
+    address_said version m says e true h None k = tt
+    address_said version m says e true h (Some x) k = says (b, x, both m e, eqb-true (length b) (2 * width_of version) h, k)
     address_said version m says e false h o k = tt
 
     node_said : Says fields (node_entry a b)
@@ -95,9 +93,9 @@ four_said w a b c = go (same w (text "plmn")) refl (plmn_of a b) refl (priority_
   where
     go : (t : Bool) → same w (text "plmn") ≡ t → (o : Option Plmn) → plmn_of a b ≡ o → (x : Option ℕ) → priority_of c ≡ x
         → Says (w ∷ a ∷ b ∷ c ∷ []) (cond t (plmn_entry o x) Bad)
-    go true e none f x g = tt
-    go true e (some p) f none g = tt
-    go true e (some p) f (some x) g = (a, b, c, ap (λ (l : List ℕ). l ∷ a ∷ b ∷ c ∷ []) (same_equal w (text "plmn") e), f, g)
+    go true e None f x g = tt
+    go true e (Some p) f None g = tt
+    go true e (Some p) f (Some x) g = (a, b, c, ap (λ (l : List ℕ). l ∷ a ∷ b ∷ c ∷ []) (same_equal w (text "plmn") e), f, g)
     go false e o f x g = tt
 
 -- the fields of a line are those that its entry needs

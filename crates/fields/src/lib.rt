@@ -1,6 +1,6 @@
 // The readers of the fields of an entry, each at a place of the configuration text.
 #![tactic(auto)]
 
-mod digits;
+pub mod field;
 pub mod name;
 pub mod read;

@@ -7,10 +7,7 @@ ghost use Rattle.fields.specs.Read.{NameEndIs};
 fn is_name_character(c: u8) -> bool
     ensures { result ≡ is_name_character c }
 {
-    if ((97 <= c) & (c <= 122)) | ((65 <= c) & (c <= 90)) {
-        return true;
-    }
-    ((48 <= c) & (c <= 57)) | (c == 45) | (c == 46)
+    c.is_ascii_alphanumeric() | (c == b'-') | (c == b'.')
 }
 
 // The first octet from a place on that may not stand in a node name: where it stands, or the end of the text.
@@ -18,12 +15,10 @@ pub fn name_end(text: &[u8], at: usize) -> usize
     requires { at ≤ length text.now }
     ensures { NameEndIs text.now at result }
 {
-    let mut i = at;
-    while i < text.len() {
+    for i in at..text.len() {
         if !is_name_character(text[i]) {
             return i;
         }
-        i += 1;
     }
-    i
+    text.len()
 }

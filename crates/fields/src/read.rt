@@ -1,125 +1,79 @@
-// PLMNs and priorities, read at a place of a text.
-ghost use Rattle.std.specs.Prelude.{◌+◌, ◌≤◌, ◌≡◌, length};
-ghost use Rattle.fields.specs.Read.{starts_plmn, LongPlmn, LongPriority, PlmnIs, PriorityIs};
+// Numbers, PLMNs and priorities, read at a place of a text.
+ghost use Rattle.std.specs.Prelude.{◌≤◌, ◌≡◌, length};
+ghost use Rattle.fields.specs.Read.{MncIs, NumberIs, PlmnIs, PriorityIs};
 
-use crate::digits::{ZERO, are_three, are_two, is_digit, one, three, two};
+use crate::field::Field;
 use entry::field::MOST_PRIORITY;
 use entry::{NEWLINE, TAB};
 use network::Plmn;
+use text::{decimal_width, read_digits};
 
-// What a reader of a PLMN finds at a place.
-#[derive(Clone, Copy)]
-pub enum PlmnAt {
-    // A PLMN, and the place behind the octet that ends it.
-    Is(Plmn, usize),
-    // Something else.
-    Not,
-}
+// The digits of an MCC, and the most of an MNC.
+const CODE_DIGITS: usize = 3;
 
-// What a reader of a priority finds at a place.
-#[derive(Clone, Copy)]
-pub enum PriorityAt {
-    // A priority, and the place behind the newline that ends it.
-    Is(u64, usize),
-    // Something else.
-    Not,
-}
+// The fewest digits of an MNC.
+const FEWEST_MNC_DIGITS: usize = 2;
 
-// Whether an MCC, a tab and two digits of an MNC stand at a place.
-fn starts_plmn(text: &[u8], at: usize) -> bool
-    requires { at + 6 ≤ length text.now }
-    ensures { result ≡ starts_plmn text.now at }
+// The most digits of a priority.
+const PRIORITY_DIGITS: usize = 3;
+
+// The base of the digits of a PLMN and of a priority.
+const DECIMAL: u64 = 10;
+
+// The number of so many digits at a place, and the octet that ends it.
+pub fn number_at(text: &[u8], at: usize, width: usize, base: u64, end: u8) -> Option<Field<u64>>
+    requires { (at ≤ length text.now) × (width ≤ 16) × (base ≤ 16) }
+    ensures { NumberIs text.now at width base end result }
 {
-    are_three(text, at) & (text[at + 3] == TAB) & are_two(text, at + 4)
+    let stop = at + width;
+    if (text.len() <= stop) || (text[stop] != end) {
+        return None;
+    }
+    let value = read_digits(&text[at..stop], base)?;
+    Some(Field {
+        value,
+        next: stop + 1,
+    })
 }
 
-// A PLMN at a place whose MNC has more than two digits.
-fn long_plmn_at(text: &[u8], at: usize, end: u8) -> PlmnAt
-    requires { LongPlmn text.now at end }
-    ensures { PlmnIs text.now at end result }
+// The MNC at a place and the octet that ends it: two digits or three.
+fn mnc_at(text: &[u8], at: usize, end: u8) -> Option<Field<u64>>
+    requires { at ≤ length text.now }
+    ensures { MncIs text.now at end result }
 {
-    if text.len() < at + 8 {
-        return PlmnAt::Not;
+    if let Some(mnc) = number_at(text, at, FEWEST_MNC_DIGITS, DECIMAL, end) {
+        return Some(mnc);
     }
-    if !(is_digit(text[at + 6]) & (text[at + 7] == end)) {
-        return PlmnAt::Not;
-    }
-    let p = Plmn {
-        mcc: three(text, at),
-        mnc: three(text, at + 4),
-    };
-    PlmnAt::Is(p, at + 8)
+    number_at(text, at, CODE_DIGITS, DECIMAL, end)
 }
 
 // The PLMN at a place and the octet that ends it.
-pub fn plmn_at(text: &[u8], at: usize, end: u8) -> PlmnAt
+pub fn plmn_at(text: &[u8], at: usize, end: u8) -> Option<Field<Plmn>>
     requires { at ≤ length text.now }
     ensures { PlmnIs text.now at end result }
 {
-    if text.len() < at + 7 {
-        return PlmnAt::Not;
-    }
-    if !starts_plmn(text, at) {
-        return PlmnAt::Not;
-    }
-    if text[at + 6] != end {
-        return long_plmn_at(text, at, end);
-    }
-    let p = Plmn {
-        mcc: three(text, at),
-        mnc: two(text, at + 4),
-    };
-    PlmnAt::Is(p, at + 7)
-}
-
-// A priority of more than two digits at a place.
-fn longest_priority_at(text: &[u8], at: usize) -> PriorityAt
-    requires { LongPriority text.now at 2 }
-    ensures { PriorityIs text.now at result }
-{
-    if text.len() < at + 4 {
-        return PriorityAt::Not;
-    }
-    if !is_digit(text[at + 2]) | (text[at + 3] != NEWLINE) {
-        return PriorityAt::Not;
-    }
-    let x = three(text, at);
-    if MOST_PRIORITY < x {
-        return PriorityAt::Not;
-    }
-    PriorityAt::Is(x, at + 4)
-}
-
-// A priority of more than one digit at a place.
-fn long_priority_at(text: &[u8], at: usize) -> PriorityAt
-    requires { LongPriority text.now at 1 }
-    ensures { PriorityIs text.now at result }
-{
-    if text.len() < at + 3 {
-        return PriorityAt::Not;
-    }
-    if (text[at] == ZERO) | !is_digit(text[at + 1]) {
-        return PriorityAt::Not;
-    }
-    if text[at + 2] != NEWLINE {
-        return longest_priority_at(text, at);
-    }
-    PriorityAt::Is(two(text, at), at + 3)
+    let mcc = number_at(text, at, CODE_DIGITS, DECIMAL, TAB)?;
+    let mnc = mnc_at(text, mcc.next, end)?;
+    Some(Field {
+        value: Plmn {
+            mcc: mcc.value,
+            mnc: mnc.value,
+        },
+        next: mnc.next,
+    })
 }
 
 // The priority at a place and the newline that ends it.
-pub fn priority_at(text: &[u8], at: usize) -> PriorityAt
+pub fn priority_at(text: &[u8], at: usize) -> Option<Field<u64>>
     requires { at ≤ length text.now }
     ensures { PriorityIs text.now at result }
 {
-    if text.len() < at + 2 {
-        return PriorityAt::Not;
+    for width in 1..PRIORITY_DIGITS + 1 {
+        if let Some(read) = number_at(text, at, width, DECIMAL, NEWLINE) {
+            if (read.value <= MOST_PRIORITY) & (decimal_width(read.value) == width) {
+                return Some(read);
+            }
+        }
     }
-    if !is_digit(text[at]) {
-        return PriorityAt::Not;
-    }
-    if text[at + 1] != NEWLINE {
-        return long_priority_at(text, at);
-    }
-    PriorityAt::Is(one(text, at), at + 2)
+    None
 }

@@ -1,7 +1,9 @@
 -- What the tests at the entry of a timed call settle, whatever its event is.
-use Rattle.std.specs.Prelude.{ℕ, Bool, false, not, List, [], ◌∷◌, ◌≡◌}
+use Rattle.std.specs.Prelude.{ℕ, Bool, false, not, List, [], ◌∷◌, ◌≡◌, Result, Ok, Err}
 use Rattle.octets.specs.Digits.{field}
 use Rattle.octets.specs.Refusal.{Refusal, ◌when◌}
+use Rattle.refusal.specs.Numbers.{number_of}
+use Rattle.refusal.specs.declared.Refusal as Refused
 use Rattle.record.specs.Octets.{line_from}
 use Rattle.table.specs.Table.{is_table, record_of, slot, UsedAt}
 use Rattle.rules.specs.Answer.{refused}
@@ -30,7 +32,7 @@ pub record Passes (r : Entered) (tenant line time : ℕ) (short : Bool) (l : Lis
   pub stands : Stands r l
 
 -- the entry tests of a call at a time whose answer buffer is too short or not: refused, or passed
-pub record Enters (r : Entered) (tenant line time : ℕ) (short : Bool) (l : List ℕ) : Type 0 where
-  pub refused_is : (r.refusal ≡ 0 → ⊥) → (e : Event) → is_short (timed tenant line time e) ≡ short
-      → run (timed tenant line time e) l ≡ record { answer = refused r.refusal (timed tenant line time e); table = l }
-  pub passes : r.refusal ≡ 0 → Passes r tenant line time short l
+abbrev pub Enters : Result Entered Refused.Refusal → ℕ → ℕ → ℕ → Bool → List ℕ → Type 0
+Enters (Ok r) tenant line time short l = Passes r tenant line time short l
+Enters (Err n) tenant line time short l =
+    (e : Event) → is_short (timed tenant line time e) ≡ short → run (timed tenant line time e) l ≡ record { answer = refused (number_of n) (timed tenant line time e); table = l }

@@ -1,7 +1,7 @@
 -- The chosen address is the first that is permitted; where none is, all are passed over.
+use Rattle.std.specs.Prelude.{None, Some, slice_get}
 use Prim.Native.Nat.{ℕ}
-use mathlib.Core.List.{List, [], ◌∷◌, head?}
-use mathlib.Core.Option.{none, some}
+use mathlib.Core.List.{List, [], ◌∷◌}
 use mathlib.Core.Path.{◌≡◌, refl, sym, ◌∙◌, subst}
 use native.Mathlib.Omega.{arith}
 use lib.ListN.{length, drop}
@@ -13,12 +13,12 @@ use Rattle.gateway.specs.Gateway.{choose, found_at}
 use Rattle.gateway.specs.declared.Found.TheVariants.{Chosen, Nothing}
 
 -- what is found at a place, by what is left from there
-found_chosen : (m : List Address) (i : ℕ) (a : Address) (k : ℕ) → found_at i m ≡ Chosen a k → (head? m ≡ some a) × (i ≡ k)
+found_chosen : (m : List Address) (i : ℕ) (a : Address) (k : ℕ) → found_at i m ≡ Chosen a k → (slice_get m 0 ≡ Some a) × (i ≡ k)
 unfolding found_at
 found_chosen [] i a k e = absurd (let z : ◌≡◌ {A = ℕ} 0 1 = cc in omega arith)
 found_chosen (b ∷ m) i a k e = (cc, cc)
 
-found_nothing : (m : List Address) (i k : ℕ) → found_at i m ≡ Nothing k → (head? m ≡ none) × (i ≡ k)
+found_nothing : (m : List Address) (i k : ℕ) → found_at i m ≡ Nothing k → (slice_get m 0 ≡ None) × (i ≡ k)
 unfolding found_at
 found_nothing [] i k e = (refl, cc)
 found_nothing (b ∷ m) i k e = absurd (let z : ◌≡◌ {A = ℕ} 0 1 = cc in omega arith)

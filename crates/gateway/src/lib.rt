@@ -10,7 +10,7 @@ ghost use Rattle.lists.specs.Lists.{addresses_in, most_entries};
 ghost use Rattle.gateway.specs.Gateway.{choose};
 ghost use Rattle.gateway.specs.Laws.{Laws};
 
-use address::{Address, version};
+use address::Address;
 use addresses::ADDRESS;
 use lists::{ENTRIES, address_at};
 
@@ -29,22 +29,21 @@ pub fn choose(list: &[u8], local: u64, held: [bool; ENTRIES]) -> Found
     ensures { (hs : List Address) → HeldAre held list.now hs → result ≡ choose local hs (addresses_in list.now) }
 {
     let count = list.len() / ADDRESS;
-    let mut i = 0;
-    while i < count {
+    for i in 0..count {
         let a = address_at(list, i);
-        if (version(a) == local) & !held[i] {
+        if a.version() == local && !held[i] {
             return Found::Chosen(a, i);
         }
-        i += 1;
     }
-    Found::Nothing(i)
+    Found::Nothing(count)
 }
 
 // Chooses from a list of one address, of which it is told whether it is on hold.
+#[tactic(auto, unfolding(crate::specs::Gateway::choose, crate::specs::Gateway::found_at, octets::specs::Row::place, address::specs::Address::permitted))]
 pub fn choose_one(a: Address, local: u64, held: bool) -> Found
     ensures { (hs : List Address) → held ≡ stands a hs → result ≡ choose local hs (a ∷ []) }
 {
-    if (version(a) == local) & !held {
+    if a.version() == local && !held {
         return Found::Chosen(a, 0);
     }
     Found::Nothing(1)

@@ -1,7 +1,7 @@
 // Holds read from their octets, written and tested there.
 #![tactic(auto)]
 
-ghost use Rattle.std.specs.Prelude.{◌&&◌, ◌≡◌, ◌+◌, ◌≤◌, length, take};
+ghost use Rattle.std.specs.Prelude.{◌&&◌, ◌≡◌, ◌+◌, ◌≤◌, length};
 ghost use Rattle.octets.specs.Digits.{field};
 ghost use Rattle.octets.specs.Part.{Wrote};
 ghost use Rattle.octets.specs.Row.{joined, only};
@@ -10,13 +10,21 @@ ghost use Rattle.address.specs.Address.{held_addresses, most_holds, stands};
 ghost use Rattle.addresses.specs.Addresses.{address_length};
 ghost use Rattle.holds.specs.Holds.{different, end_after, end_number, end_of, ends_after, hold_from, hold_length, hold_octets, holds_from, holds_room, holds_written};
 ghost use Rattle.holds.specs.Keys.{KeysOf};
+ghost use Rattle.holds.specs.Listed.{holds_of};
 
-use address::{Address, End, HOLDS, Hold, is_held, same_address};
+use address::{Address, End, HOLDS, Hold, is_held};
 use addresses::{ADDRESS, is_address, key_at, put_address, read_address};
+use bounded::Bounded;
 use buffer::number::{get, put};
 use buffer::slice::zeros_at;
 use differ::pick;
 use holds::{HOLD, HOLDS_ROOM, Holds};
+
+// What stands in the places that hold nothing.
+const NOTHING: Hold = Hold {
+    address: Address::V4(0),
+    end: End::Never,
+};
 
 // The end of a hold as a number.
 fn end_number(end: End) -> u64
@@ -60,33 +68,20 @@ pub fn put_hold(b: &mut [u8], at: usize, hold: Hold)
 }
 
 // The first n holds of those that begin at a place.
-pub fn read_holds(b: &[u8], at: usize, n: usize) -> [Hold; HOLDS]
+pub fn read_holds(b: &[u8], at: usize, n: usize) -> Holds
     requires { (at + holds_room ≤ length b.now) × (n ≤ most_holds) }
-    ensures { take n result ≡ holds_from b.now at n }
+    ensures { holds_of result ≡ holds_from b.now at n }
 {
-    let mut list = [Hold {
-        address: Address::V4(0),
-        end: End::Never,
-    }; HOLDS];
-    let mut i = 0;
-    while i < n {
-        list[i] = read_hold(b, at + HOLD * i);
-        i += 1;
-    }
-    list
+    Bounded::from_fn(n, NOTHING, |i| read_hold(b, at + HOLD * i))
 }
 
-// Stores the first n holds of a list from a place on.
-pub fn put_holds(b: &mut [u8], at: usize, list: [Hold; HOLDS], n: usize)
-    requires { (at + holds_room ≤ length b.old) × (n ≤ most_holds) }
-    ensures wrote { Wrote b.old at (joined hold_octets (take n list)) b.new }
-    ensures list_len { length (take n list) ≡ n }
+// Stores holds from a place on.
+pub fn put_holds(b: &mut [u8], at: usize, holds: &[Hold])
+    requires { (at + holds_room ≤ length b.old) × (length holds.now ≤ most_holds) }
+    ensures { Wrote b.old at (joined hold_octets holds.now) b.new }
 {
-    let mut i = 0;
-    while i < n {
-        let hold = list[i];
-        put_hold(b, at + HOLD * i, hold);
-        i += 1;
+    for i in 0..holds.len() {
+        put_hold(b, at + HOLD * i, holds[i]);
     }
 }
 
@@ -105,12 +100,10 @@ pub fn all_in_force(b: &[u8], at: usize, n: usize, time: u64) -> bool
     requires { (at + holds_room ≤ length b.now) × (n ≤ most_holds) }
     ensures { result ≡ all_of (ends_after time) (holds_from b.now at n) }
 {
-    let mut i = 0;
-    while i < n {
+    for i in 0..n {
         if !ends_at_after(b, at + HOLD * i, time) {
             return false;
         }
-        i += 1;
     }
     true
 }
@@ -121,12 +114,10 @@ pub fn count_in_force(b: &[u8], at: usize, n: usize, time: u64) -> usize
     ensures { result ≡ length (only (ends_after time) (holds_from b.now at n)) }
 {
     let mut count = 0;
-    let mut i = 0;
-    while i < n {
+    for i in 0..n {
         if ends_at_after(b, at + HOLD * i, time) {
             count += 1;
         }
-        i += 1;
     }
     count
 }
@@ -136,12 +127,10 @@ pub fn is_held_at(b: &[u8], at: usize, n: usize, time: u64, a: Address) -> bool
     requires { (at + holds_room ≤ length b.now) × (n ≤ most_holds) }
     ensures { result ≡ stands a (held_addresses (only (ends_after time) (holds_from b.now at n))) }
 {
-    let mut i = 0;
-    while i < n {
-        if same_address(a, read_address(b, at + HOLD * i)) & ends_at_after(b, at + HOLD * i, time) {
+    for i in 0..n {
+        if (a == read_address(b, at + HOLD * i)) & ends_at_after(b, at + HOLD * i, time) {
             return true;
         }
-        i += 1;
     }
     false
 }
@@ -157,15 +146,13 @@ pub fn stand_in_force(b: &[u8], at: usize, n: usize, time: u64) -> bool
     if HOLDS < n {
         return false;
     }
-    let mut i = 0;
-    while i < n {
+    for i in 0..n {
         if !is_address(b, at + HOLD * i) {
             return false;
         }
         if !ends_at_after(b, at + HOLD * i, time) {
             return false;
         }
-        i += 1;
     }
     zeros_at(b, at + HOLD * n, HOLDS_ROOM - HOLD * n)
 }
@@ -176,29 +163,22 @@ pub fn keys(b: &[u8], at: usize, n: usize, other: u64) -> [u64; HOLDS]
     ensures { KeysOf b.now at n other result }
 {
     let mut list = [0u64; HOLDS];
-    let mut i = 0;
-    while i < HOLDS {
+    for i in 0..HOLDS {
         let key = key_at(b, at + HOLD * i);
         let free = pick(i == HOLDS - 1, other, i as u64);
         list[i] = pick(i < n, key, free);
-        i += 1;
     }
     list
 }
 
-// Whether the first n holds are for different addresses.
-pub fn are_different(list: [Hold; HOLDS], n: usize) -> bool
-    requires { n ≤ most_holds }
-    ensures { result ≡ different (held_addresses (take n list)) }
+// Whether the holds are for different addresses.
+pub fn are_different(holds: &[Hold]) -> bool
+    ensures { result ≡ different (held_addresses holds.now) }
 {
-    let mut i = 0;
-    while i < n {
-        let hold = list[i];
-        let address = hold.address;
-        if is_held(list, i + 1, n, address) {
+    for i in 0..holds.len() {
+        if is_held(&holds[i + 1..], holds[i].address) {
             return false;
         }
-        i += 1;
     }
     true
 }
@@ -213,23 +193,10 @@ fn ends_after(end: End, time: u64) -> bool
     }
 }
 
-// Those of the first n holds that end after a time, in their order.
-pub fn in_force(list: [Hold; HOLDS], n: usize, time: u64) -> Holds
-    requires { n ≤ most_holds }
-    ensures list_value { take result.count result.list ≡ only (ends_after time) (take n list) }
-    ensures count_le_n { result.count ≤ n }
+// Those of the holds that end after a time, in their order.
+pub fn in_force(holds: &[Hold], time: u64) -> Holds
+    requires { length holds.now ≤ most_holds }
+    ensures { holds_of result ≡ only (ends_after time) holds.now }
 {
-    let mut kept = list;
-    let mut count = 0;
-    let mut i = 0;
-    while i < n {
-        let hold = kept[i];
-        let end = hold.end;
-        if ends_after(end, time) {
-            kept[count] = hold;
-            count += 1;
-        }
-        i += 1;
-    }
-    Holds { list: kept, count }
+    Bounded::only(holds, NOTHING, |hold| ends_after(hold.end, time))
 }

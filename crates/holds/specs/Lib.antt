@@ -2,3 +2,4 @@
 pub mod Holds
 pub mod Keys
 pub mod Laws
+pub mod Listed

@@ -5,6 +5,7 @@ ghost use Rattle.holds.specs.Laws.{Laws};
 
 use address::{HOLDS, Hold};
 use addresses::ADDRESS;
+use bounded::Bounded;
 
 // The octets of a hold.
 pub const HOLD: usize = ADDRESS + 5;
@@ -12,12 +13,8 @@ pub const HOLD: usize = ADDRESS + 5;
 // The octets of all the holds that a line has room for.
 pub const HOLDS_ROOM: usize = HOLDS * HOLD;
 
-// The holds of a line: those below the count.
-#[derive(Clone, Copy)]
-pub struct Holds {
-    pub list: [Hold; HOLDS],
-    pub count: usize,
-}
+// The holds of a line.
+pub type Holds = Bounded<Hold, HOLDS>;
 
 // Does nothing; its promise is that writing and reading undo each other.
 pub fn laws()

@@ -1,3 +1,2 @@
 -- The laws that the proofs of IKE steps share.
 pub mod Holding
-pub mod Onward

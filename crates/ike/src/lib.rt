@@ -2,137 +2,115 @@
 #![tactic(auto)]
 
 pub mod congestion;
-pub mod event;
 
 ghost use Rattle.std.specs.Prelude.{[], ◌≡◌};
-ghost use Rattle.record.specs.Line.{line_of, InArrays};
+ghost use Rattle.record.specs.Line.{line_of};
 ghost use Rattle.rules.specs.Call.{begin, init, final, error, give_up};
 ghost use Rattle.rules.specs.Life.{ended};
 ghost use Rattle.rules.specs.Phases.{underway};
 ghost use Rattle.step.specs.Step.{effect, effect_in};
 
-use phase::{AUTH, EAP, IDLE, LIVE, Phase, SURE, number};
+use phase::Phase;
 use record::Record;
+use refusal::Refusal;
 use rules::Action;
-use step::{Stepped, current, goes, is_late, refused};
+use step::{Done, Stepped, found_at};
 
 // The highest number of an error notify.
 const MOST_ERROR: u64 = 16383;
 
 // Begin: IKE_SA_INIT is sent.
 pub fn begin(line: Record, time: u64) -> Stepped
-    requires { InArrays line }
-    ensures result_value { effect_in result [] [] ≡ effect begin time (line_of line) }
-    ensures in_arrays { InArrays result.line }
+    ensures { effect_in (line_of line) result [] [] ≡ effect begin time (line_of line) }
 {
-    let found = current(line, time);
-    if is_late(time) {
-        return refused(line, 8);
-    }
-    let phase = found.phase;
-    let Phase::Chosen(a) = phase else {
-        return refused(line, 10);
+    let found = found_at(line, time)?;
+    let Phase::Chosen(a) = found.phase else {
+        return Err(Refusal::Phase);
     };
-    goes(found, Phase::Init(a), Action::SendInit)
+    Ok(Done {
+        line: found.in_phase(Phase::Init(a)),
+        action: Action::SendInit,
+    })
 }
 
 // The init answer: IKE_AUTH is sent without AUTH.
 pub fn init_answer(line: Record, time: u64) -> Stepped
-    requires { InArrays line }
-    ensures result_value { effect_in result [] [] ≡ effect init time (line_of line) }
-    ensures in_arrays { InArrays result.line }
+    ensures { effect_in (line_of line) result [] [] ≡ effect init time (line_of line) }
 {
-    let found = current(line, time);
-    if is_late(time) {
-        return refused(line, 8);
-    }
-    let phase = found.phase;
-    let Phase::Init(a) = phase else {
-        return refused(line, 10);
+    let found = found_at(line, time)?;
+    let Phase::Init(a) = found.phase else {
+        return Err(Refusal::Phase);
     };
-    goes(found, Phase::Auth(a), Action::SendAuthRequest)
+    Ok(Done {
+        line: found.in_phase(Phase::Auth(a)),
+        action: Action::SendAuthRequest,
+    })
 }
 
 // The final answer: the line is live where AUTH is good, and released where it is bad.
 pub fn final_answer(line: Record, time: u64, good: u64) -> Stepped
-    requires { InArrays line }
-    ensures result_value { effect_in result [] [] ≡ effect (final good) time (line_of line) }
-    ensures in_arrays { InArrays result.line }
+    ensures { effect_in (line_of line) result [] [] ≡ effect (final good) time (line_of line) }
 {
-    let found = current(line, time);
-    if is_late(time) {
-        return refused(line, 8);
-    }
+    let found = found_at(line, time)?;
     if 1 < good {
-        return refused(line, 8);
+        return Err(Refusal::Range);
     }
-    let phase = found.phase;
-    let Phase::Sure(a) = phase else {
-        return refused(line, 10);
+    let Phase::Sure(a) = found.phase else {
+        return Err(Refusal::Phase);
     };
     if good == 1 {
-        return goes(found, Phase::Live(a), Action::Live);
+        return Ok(Done {
+            line: found.in_phase(Phase::Live(a)),
+            action: Action::Live,
+        });
     }
-    goes(found, Phase::Idle, Action::Released(0))
+    Ok(Done {
+        line: found.in_phase(Phase::Idle),
+        action: Action::Released(false),
+    })
 }
 
 // Whether a line authenticates itself: its phase is auth, eap or sure.
 pub(crate) fn is_underway(phase: Phase) -> bool
     ensures { result ≡ underway phase }
 {
-    let n = number(phase);
-    (n == AUTH) | (n == EAP) | (n == SURE)
+    matches!(phase, Phase::Auth(_) | Phase::Eap(_, _) | Phase::Sure(_))
 }
 
-// 1 where leaving a phase ends an EAP session, else 0.
-pub(crate) fn ended(phase: Phase) -> u64
+// Whether leaving a phase ends an EAP session.
+pub(crate) fn ended(phase: Phase) -> bool
     ensures { result ≡ ended phase }
 {
-    if number(phase) == EAP {
-        return 1;
-    }
-    0
+    matches!(phase, Phase::Eap(_, _))
 }
 
 // An error notify: the error is handed up.
 pub fn error(line: Record, time: u64, code: u64) -> Stepped
-    requires { InArrays line }
-    ensures result_value { effect_in result [] [] ≡ effect (error code) time (line_of line) }
-    ensures in_arrays { InArrays result.line }
+    ensures { effect_in (line_of line) result [] [] ≡ effect (error code) time (line_of line) }
 {
-    let found = current(line, time);
-    if is_late(time) {
-        return refused(line, 8);
+    let found = found_at(line, time)?;
+    if !(1..=MOST_ERROR).contains(&code) {
+        return Err(Refusal::Range);
     }
-    if code < 1 {
-        return refused(line, 8);
+    if !is_underway(found.phase) {
+        return Err(Refusal::Phase);
     }
-    if MOST_ERROR < code {
-        return refused(line, 8);
-    }
-    let phase = found.phase;
-    if !is_underway(phase) {
-        return refused(line, 10);
-    }
-    goes(found, Phase::Idle, Action::ErrorUp(ended(phase), code))
+    Ok(Done {
+        line: found.in_phase(Phase::Idle),
+        action: Action::ErrorUp(ended(found.phase), code),
+    })
 }
 
 // Giving up: the line is idle.
 pub fn give_up(line: Record, time: u64) -> Stepped
-    requires { InArrays line }
-    ensures result_value { effect_in result [] [] ≡ effect give_up time (line_of line) }
-    ensures in_arrays { InArrays result.line }
+    ensures { effect_in (line_of line) result [] [] ≡ effect give_up time (line_of line) }
 {
-    let found = current(line, time);
-    if is_late(time) {
-        return refused(line, 8);
+    let found = found_at(line, time)?;
+    match found.phase {
+        Phase::Idle | Phase::Live(_) => Err(Refusal::Phase),
+        _ => Ok(Done {
+            line: found.in_phase(Phase::Idle),
+            action: Action::Nothing,
+        }),
     }
-    let phase = found.phase;
-    if number(phase) == IDLE {
-        return refused(line, 10);
-    }
-    if number(phase) == LIVE {
-        return refused(line, 10);
-    }
-    goes(found, Phase::Idle, Action::Nothing)
 }

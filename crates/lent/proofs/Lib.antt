@@ -1,2 +1,2 @@
--- What the callers of steps on a lent record share.
-pub mod Unheld
+-- What the steps on a lent record share, and their callers.
+pub mod Leaving

@@ -1,2 +1,2 @@
--- The events that come with numbers alone, and what a step on a lent record promises.
-pub mod Events
+-- What a step on a lent record promises.
+pub mod Left

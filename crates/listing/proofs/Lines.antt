@@ -1,7 +1,7 @@
 -- The text of a line by the record in which it is found.
+use Rattle.std.specs.Prelude.{None, Some}
 use Prim.Native.Nat.{ℕ, ◌≤◌, ◌<◌}
 use mathlib.Core.List.{List, []}
-use mathlib.Core.Option.{none, some}
 use mathlib.Core.Path.{◌≡◌, refl, sym, ap, ◌∙◌}
 use borrow.Author.Tests.{le-ltb, lt-ltb}
 use Rattle.octets.proofs.Search.{lower}
@@ -16,11 +16,11 @@ use Rattle.listing.specs.Branch.{line_in, open_text}
 
 -- the record with a number: its line, and none past the last one
 module _ (l : List ℕ) (i : ℕ) where
-  none_in : 32 ≤ i → line_in l i ≡ none
+  none_in : 32 ≤ i → line_in l i ≡ None
   unfolding line_in
   none_in h = rw (le-ltb i 32 h)
 
-  some_in : i < 32 → line_in l i ≡ some (line_from (slot l i))
+  some_in : i < 32 → line_in l i ≡ Some (line_from (slot l i))
   unfolding line_in
   some_in h = rw (lt-ltb i 32 h)
 

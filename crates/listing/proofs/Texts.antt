@@ -1,7 +1,7 @@
 -- The texts of a listing, part by part.
+use Rattle.std.specs.Prelude.{Option, None, Some}
 use Prim.Native.Nat.{ℕ, suc, ◌+◌, ◌-◌, ◌≤◌, ◌<◌}
 use mathlib.Core.List.{List, [], ◌∷◌, ◌++◌, append_assoc}
-use mathlib.Core.Option.{Option, none, some}
 use mathlib.Core.Path.{◌≡◌, refl, sym, ap, ap₂, ◌∙◌}
 use native.Mathlib.Numerals.{add-one}
 use Rattle.octets.specs.Row.{joined, row}
@@ -45,8 +45,8 @@ module _ {A : Type 0} (g : A → List ℕ) (f : ℕ → A) (i n : ℕ) where
 module _ (f : ℕ → Option Line) (k n : ℕ) where
   list_next : (o : Option Line) (xs : List (Option Line)) → list_from k (o ∷ xs) ≡ open_text k o ++ list_from (suc k) xs
   unfolding list_from open_text
-  list_next none xs = refl
-  list_next (some x) xs = refl
+  list_next None xs = refl
+  list_next (Some x) xs = refl
 
   pub next_line : k < n → list_from k (row f k (n - k)) ≡ open_text k (f k) ++ list_from (k + 1) (row f (k + 1) (n - (k + 1)))
   next_line h =

@@ -1,6 +1,5 @@
 -- What the private functions store, in the terms of the rules' `Listing`.
-use Rattle.std.specs.Prelude.{ℕ, cond, List, [], ◌++◌, ltb, length}
-use Rattle.std.proofs.Math.Option.{Option, none, some}
+use Rattle.std.specs.Prelude.{ℕ, cond, List, [], ◌++◌, ltb, length, Option, None, Some}
 use Rattle.octets.specs.Row.{joined}
 use Rattle.children.specs.declared.Child.{Child}
 use Rattle.phase.specs.Chosen.{chosen}
@@ -22,9 +21,9 @@ tail_text n cs = tab ++ decimal (length cs) ++ newline ++ joined (child_text n) 
 
 -- the line in the used record with a number, none past the last one
 unfoldable pub line_in : List ℕ → ℕ → Option Line
-line_in l i = cond (ltb i record_count) (some (line_from (slot l i))) none
+line_in l i = cond (ltb i record_count) (Some (line_from (slot l i))) None
 
 -- a line, where it is open
 unfoldable pub open_text : ℕ → Option Line → List ℕ
-open_text n none = []
-open_text n (some x) = line_text n x
+open_text n None = []
+open_text n (Some x) = line_text n x

@@ -46,10 +46,8 @@ fn put_children(buffer: &mut [u8], at: usize, line: u64, b: &[u8], n: usize) -> 
     ensures { Put buffer.old at (joined (child_text line) (children_from b.now children_place n)) buffer.new result }
 {
     let mut place = at;
-    let mut i = 0;
-    while i < n {
+    for i in 0..n {
         place = put_child(buffer, place, line, read_child(b, CHILDREN_AT + CHILD * i));
-        i += 1;
     }
     place
 }
@@ -101,9 +99,7 @@ fn find_lines(table: &[u8], tenant: u64, found: &mut [usize; PLACES])
     ensures { (line : ℕ) → line ≤ last_line → get_or found.new line 0 ≡ record_of table.now (pair_of tenant line) }
 {
     *found = [RECORDS; PLACES];
-    let mut i = RECORDS;
-    while 0 < i {
-        i -= 1;
+    for i in (0..RECORDS).rev() {
         // Pairs are numbered from 1 on, and a free record has 0: the number's quotient is one more than the tenant, its remainder the line.
         let number = get(table, RECORD * i, 1) + LINES - 1;
         if number / LINES == tenant + 1 {
@@ -122,10 +118,8 @@ pub fn list(table: &[u8], tenant: u64, buffer: &mut [u8]) -> usize
     let mut found = [RECORDS; PLACES];
     find_lines(table, tenant, &mut found);
     let mut at = 0;
-    let mut line = 0;
-    while line < LINES {
+    for line in 0..LINES {
         at = put_open(table, found[line as usize], line, buffer, at);
-        line += 1;
     }
     at
 }

@@ -1,7 +1,7 @@
 -- Digits that are stored from a place on.
+use Rattle.std.specs.Prelude.{Some}
 use Prim.Native.Nat.{ℕ, ◌+◌, ◌^◌, ◌<◌}
 use mathlib.Core.List.{List, ◌++◌}
-use mathlib.Core.Option.{some}
 use mathlib.Core.Path.{◌≡◌, sym, ap, ◌∙◌}
 use Rattle.octets.specs.Part.{Wrote}
 use Rattle.address.specs.Address.{number_of, version_of, width_of}
@@ -12,7 +12,7 @@ use Rattle.rules.specs.Listing.{address_text}
 use Rattle.listing_field.specs.Put.{Put}
 
 -- an address of version 6 is written half by half
-pub halves_text : (high low : ℕ) → low < 2 ^ 64 → address_text (some (V6 high low)) ≡ digit_text 16 16 high ++ digit_text 16 16 low
+pub halves_text : (high low : ℕ) → low < 2 ^ 64 → address_text (Some (V6 high low)) ≡ digit_text 16 16 high ++ digit_text 16 16 low
 unfolding address_text width_of version_of number_of
 halves_text high low small = text_halves 16 16 16 high low small
 

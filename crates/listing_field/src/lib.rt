@@ -1,8 +1,7 @@
 // The fields of a listing: each is stored from a place on, and the place behind it comes back.
 #![tactic(auto)]
 
-ghost use Rattle.std.specs.Prelude.{true, ◌++◌, ◌≡◌, ◌≤◌, length};
-ghost use Rattle.std.proofs.Math.Option.{some};
+ghost use Rattle.std.specs.Prelude.{true, ◌++◌, ◌≡◌, ◌≤◌, length, Some};
 ghost use Rattle.phase.specs.Chosen.{chosen};
 ghost use Rattle.phase.specs.Phase.{is_phase, phase_from};
 ghost use Rattle.phase.specs.Stage.{stage_of};
@@ -47,43 +46,36 @@ pub fn put_number(buffer: &mut [u8], at: usize, left: &[u8], x: u64, right: &[u8
     put_text(buffer, end, right)
 }
 
+// The word of a line's phase, from its octets.
+fn word_of(b: &[u8]) -> &'static [u8]
+    requires { (record_length ≤ length b.now) × (is_phase b.now phase_place ≡ true) }
+    ensures { result.now ≡ text (word (stage_of (phase_from b.now phase_place))) }
+{
+    match get(b, PHASE_AT, 1) {
+        IDLE => b"idle",
+        COUNTRY => b"country",
+        NAME => b"name",
+        CHOSEN => b"chosen",
+        INIT => b"init",
+        AUTH => b"auth",
+        EAP => b"eap",
+        SURE => b"sure",
+        _ => b"live",
+    }
+}
+
 // Stores the word of a line's phase, from its octets.
 pub fn put_word(buffer: &mut [u8], at: usize, b: &[u8]) -> usize
     requires { (record_length ≤ length b.now) × (is_phase b.now phase_place ≡ true) × Fits buffer.old at (text (word (stage_of (phase_from b.now phase_place)))) }
     ensures { Put buffer.old at (text (word (stage_of (phase_from b.now phase_place)))) buffer.new result }
 {
-    let number = get(b, PHASE_AT, 1);
-    if number == IDLE {
-        return put_text(buffer, at, b"idle");
-    }
-    if number == COUNTRY {
-        return put_text(buffer, at, b"country");
-    }
-    if number == NAME {
-        return put_text(buffer, at, b"name");
-    }
-    if number == CHOSEN {
-        return put_text(buffer, at, b"chosen");
-    }
-    if number == INIT {
-        return put_text(buffer, at, b"init");
-    }
-    if number == AUTH {
-        return put_text(buffer, at, b"auth");
-    }
-    if number == EAP {
-        return put_text(buffer, at, b"eap");
-    }
-    if number == SURE {
-        return put_text(buffer, at, b"sure");
-    }
-    put_text(buffer, at, b"live")
+    put_text(buffer, at, word_of(b))
 }
 
 // Stores an address, one of version 6 half by half.
 fn put_known(buffer: &mut [u8], at: usize, address: Address) -> usize
-    requires { Fits buffer.old at (address_text (some address)) }
-    ensures { Put buffer.old at (address_text (some address)) buffer.new result }
+    requires { Fits buffer.old at (address_text (Some address)) }
+    ensures { Put buffer.old at (address_text (Some address)) buffer.new result }
 {
     match address {
         Address::V4(x) => put_hex(buffer, at, 8, x),

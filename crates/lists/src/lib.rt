@@ -11,23 +11,22 @@ use buffer::number::get;
 use network::{MOST_CODE, Plmn};
 
 // The octets of a network.
-const NETWORK: usize = 4;
+pub const NETWORK: usize = 4;
 
 // How many entries a lent list may have.
 pub const ENTRIES: usize = 16;
 
 // Whether a list has at most 16 whole entries of a size.
+#[tactic(auto, unfolding(crate::specs::Lists::whole))]
 fn is_whole(list: &[u8], size: usize) -> bool
     requires { 0 < size }
     ensures { result ≡ whole size list.now }
 {
-    if list.len() % size != 0 {
-        return false;
-    }
-    list.len() / size <= ENTRIES
+    list.len() % size == 0 && list.len() / size <= ENTRIES
 }
 
 // The network at a place.
+#[tactic(auto, unfolding(crate::specs::Lists::network_at))]
 pub fn network_at(list: &[u8], i: usize) -> Plmn
     requires { network_length * i + network_length ≤ length list.now }
     ensures { result ≡ network_at list.now i }
@@ -39,6 +38,7 @@ pub fn network_at(list: &[u8], i: usize) -> Plmn
 }
 
 // Whether the numbers of the network at a place are in their ranges.
+#[tactic(auto, unfolding(crate::specs::Lists::network_fits))]
 fn network_fits(list: &[u8], i: usize) -> bool
     requires { network_length * i + network_length ≤ length list.now }
     ensures { result ≡ network_fits list.now i }
@@ -48,24 +48,15 @@ fn network_fits(list: &[u8], i: usize) -> bool
 }
 
 // Whether a list is one of networks.
+#[tactic(auto, unfolding(crate::specs::Lists::networks_fit))]
 pub fn networks_fit(list: &[u8]) -> bool
     ensures { result ≡ networks_fit list.now }
 {
-    if !is_whole(list, NETWORK) {
-        return false;
-    }
-    let n = list.len() / NETWORK;
-    let mut i = 0;
-    while i < n {
-        if !network_fits(list, i) {
-            return false;
-        }
-        i += 1;
-    }
-    true
+    is_whole(list, NETWORK) && (0..list.len() / NETWORK).all(|i| network_fits(list, i))
 }
 
 // The address at a place.
+#[tactic(auto, unfolding(crate::specs::Lists::address_at))]
 pub fn address_at(list: &[u8], i: usize) -> Address
     requires { address_length * i + address_length ≤ length list.now }
     ensures { result ≡ address_at list.now i }
@@ -74,6 +65,7 @@ pub fn address_at(list: &[u8], i: usize) -> Address
 }
 
 // Whether an address stands at a place.
+#[tactic(auto, unfolding(crate::specs::Lists::address_fits))]
 fn address_fits(list: &[u8], i: usize) -> bool
     requires { address_length * i + address_length ≤ length list.now }
     ensures { result ≡ address_fits list.now i }
@@ -82,19 +74,9 @@ fn address_fits(list: &[u8], i: usize) -> bool
 }
 
 // Whether a list is one of addresses.
+#[tactic(auto, unfolding(crate::specs::Lists::addresses_fit))]
 pub fn addresses_fit(list: &[u8]) -> bool
     ensures { result ≡ addresses_fit list.now }
 {
-    if !is_whole(list, ADDRESS) {
-        return false;
-    }
-    let n = list.len() / ADDRESS;
-    let mut i = 0;
-    while i < n {
-        if !address_fits(list, i) {
-            return false;
-        }
-        i += 1;
-    }
-    true
+    is_whole(list, ADDRESS) && (0..list.len() / ADDRESS).all(|i| address_fits(list, i))
 }

@@ -1,11 +1,10 @@
 -- PLMNs are the same exactly where they are equal, so a PLMN stands in a list exactly where an element is that PLMN.
+use Rattle.std.specs.Prelude.{Some, slice_get}
 use Prim.Native.Nat.{ℕ}
 use mathlib.Core.Bool.{true}
 use mathlib.Core.List.{List}
-use mathlib.Core.Option.{some}
 use mathlib.Core.Path.{◌≡◌, refl, sym, ap, ap₂, ◌∙◌}
 use lib.Dec.{eqb}
-use lib.ListN.{get_elem?}
 use borrow.Author.Tests.{eq-eqb, eqb-true}
 use Rattle.octets.proofs.Firsts.{any_at, at_any}
 use Rattle.octets.proofs.Search.{and_left, and_right, and_true}
@@ -23,12 +22,12 @@ plmn_same p q e =
     (eqb-true p.mnc q.mnc (and_right (eqb p.mcc q.mcc) (eqb p.mnc q.mnc) e))
 
 module _ (p : Plmn) (ps : List Plmn) where
-  pub among_only : among p ps ≡ true → (i : ℕ) × (get_elem? ps i ≡ some p)
+  pub among_only : among p ps ≡ true → (i : ℕ) × (slice_get ps i ≡ Some p)
   unfolding among
   among_only e =
       let found = any_at (same_plmn p) ps e in
-      (found.0, found.2 ∙ ap some (sym (plmn_same p found.1 found.3)))
+      (found.0, found.2 ∙ ap Some (sym (plmn_same p found.1 found.3)))
 
-  pub among_always : (i : ℕ) → get_elem? ps i ≡ some p → among p ps ≡ true
+  pub among_always : (i : ℕ) → slice_get ps i ≡ Some p → among p ps ≡ true
   unfolding among
   among_always i e = at_any (same_plmn p) ps i p e (self_plmn p)

@@ -1,10 +1,7 @@
--- PLMNs: compared, listed, and one that may be missing.
+-- PLMNs, compared and listed.
 use Rattle.std.specs.Prelude.{ℕ, Bool, ◌&&◌, List, leb, eqb}
-use Rattle.std.proofs.Math.Option.{Option, none, some}
 use Rattle.octets.specs.Search.{any_of}
 use Rattle.network.specs.declared.Plmn.{Plmn}
-use Rattle.network.specs.declared.MaybePlmn.{MaybePlmn}
-use Rattle.network.specs.declared.MaybePlmn.TheVariants.{Is, None}
 
 -- MCC and MNC are 0 to 999
 abbrev pub most_code : ℕ
@@ -20,8 +17,3 @@ same_plmn p q = eqb p.mcc q.mcc && eqb p.mnc q.mnc
 -- a PLMN stands in a list
 unfoldable pub among : Plmn → List Plmn → Bool
 among p ps = any_of (same_plmn p) ps
-
--- a PLMN or none
-unfoldable pub plmn_option : MaybePlmn → Option Plmn
-plmn_option (Is p) = some p
-plmn_option None = none

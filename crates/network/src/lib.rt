@@ -1,9 +1,7 @@
 // Networks, each known by its PLMN, and the names under which their N3IWFs are looked up.
 #![tactic(auto)]
 
-ghost use Rattle.std.specs.Prelude.{◌≡◌};
 ghost use Rattle.network.specs.Laws.{Laws};
-ghost use Rattle.network.specs.Plmn.{same_plmn};
 
 // The highest MCC and MNC.
 pub const MOST_CODE: u64 = 999;
@@ -12,24 +10,10 @@ pub const MOST_CODE: u64 = 999;
 pub const NAME_ROOM: usize = 64;
 
 // A PLMN: the code of a country and the code of a network within it.
-#[derive(Clone, Copy)]
+#[derive(Clone, Copy, PartialEq, Eq)]
 pub struct Plmn {
     pub mcc: u64,
     pub mnc: u64,
-}
-
-// A PLMN or none.
-#[derive(Clone, Copy)]
-pub enum MaybePlmn {
-    Is(Plmn),
-    None,
-}
-
-// Whether two PLMNs are the same numbers.
-pub fn same_plmn(p: Plmn, q: Plmn) -> bool
-    ensures { result ≡ same_plmn p q }
-{
-    (p.mcc == q.mcc) & (p.mnc == q.mnc)
 }
 
 // Does nothing; its promise is the laws of this crate's definitions.

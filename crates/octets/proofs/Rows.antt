@@ -1,8 +1,8 @@
 -- The laws of rows, by which a loop over numbers goes along a row, and of the first element that passes.
+use Rattle.std.specs.Prelude.{None, Some}
 use Prim.Native.Nat.{ℕ, zero, suc, ◌+◌, ◌-◌, ◌*◌, ◌≤◌, ◌<◌}
 use mathlib.Core.Bool.{Bool, true, false, not, ◌&&◌, ◌||◌}
 use mathlib.Core.List.{List, [], ◌∷◌, ◌++◌, map, append_assoc, append-nil}
-use mathlib.Core.Option.{none, some}
 use mathlib.Core.Path.{◌≡◌, refl, sym, ap, ap₂, ◌∙◌, subst}
 use native.Mathlib.Nat.{add-zero, add-suc, suc-add, zero-add, add_comm, mul-zero, mul-suc, sub-zero, zero-sub, suc-sub-suc}
 use native.Mathlib.Numerals.{add-one}
@@ -128,11 +128,11 @@ module _ {A : Type 0} (f : ℕ → A) where
     unfolding first
     first_more h e = rw (row_more i n h, e)
 
-    pub first_here : i < n → p (f i) ≡ true → first p (row f i (n - i)) ≡ some (f i)
+    pub first_here : i < n → p (f i) ≡ true → first p (row f i (n - i)) ≡ Some (f i)
     unfolding first
     first_here h e = rw (row_more i n h, e)
 
-    pub first_none : n ≤ i → first p (row f i (n - i)) ≡ none
+    pub first_none : n ≤ i → first p (row f i (n - i)) ≡ None
     unfolding first
     first_none h = rw (row_done i n h)
 

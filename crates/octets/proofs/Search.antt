@@ -3,11 +3,13 @@ use Prim.Native.Nat.{ℕ, zero, suc, ◌+◌, ◌≤◌, ◌<◌}
 use mathlib.Core.Bool.{Bool, true, false, cond, ◌&&◌, ◌||◌, false≢true, true≢false}
 use mathlib.Core.Logic.{⊎_elim}
 use mathlib.Core.Path.{◌≡◌, refl, sym, ap, ◌∙◌, subst}
-use native.Mathlib.Nat.{not-suc-le-zero, le_of_suc-le-suc, eq-or-lt_of_le, le_refl, le_step, le-suc, lt_of_lt_of_le, not-le_of_lt}
+use native.Mathlib.Nat.{add-zero, zero-add, not-suc-le-zero, le_of_suc-le-suc, eq-or-lt_of_le, le_refl, le_step, le-suc, lt_of_lt_of_le, not-le_of_lt}
 use native.Mathlib.Numerals.{add-one}
 use native.Mathlib.Omega.{arith}
 use lib.Dec.{leb, ltb, eqb}
 use borrow.Author.Tests.{lt-ltb, le-ltb, le-leb, ltb-true, ltb-false, leb-true, eqb-true, eqb-false, eq-eqb, ne_eqb}
+use Rattle.std.proofs.Math.Bool.{and_assoc}
+use Rattle.std.specs.List.{list_all, range_with_len}
 use Rattle.octets.specs.Search.{all, least}
 
 pub and_left : (a b : Bool) → a && b ≡ true → a ≡ true
@@ -168,3 +170,13 @@ least_first zero p k h = absurd (not-suc-le-zero h)
 least_first (suc n) p k h =
     least_cases n p (λ m. k < m → p k ≡ false) (λ l q. least_first n p k q) (λ l e q. least_first n p k (lt_of_lt_of_le q l))
     (λ l e q. ⊎_elim (λ i. ap p i ∙ e) (λ i. least_first n p k (lt_of_lt_of_le i l)) (eq-or-lt_of_le (le_of_suc-le-suc q))) h
+
+-- the numbers of a range, tested from its first one on
+ranged : (p : ℕ → Bool) (a n : ℕ) → list_all p (range_with_len a (suc n)) ≡ list_all p (range_with_len a n) && p (a + n)
+ranged p a zero = rw add-zero (and_last (p a))
+ranged p a (suc n) = ap (λ (t : Bool). p a && t) (ranged p (a + 1) n) ∙ (let e : a + 1 + n ≡ a + suc n = omega arith in rw e (sym (and_assoc (p a) (list_all p (range_with_len (a + 1) n)) (p (a + suc n)))))
+
+pub all_range : (n : ℕ) (p : ℕ → Bool) → list_all p (range_with_len 0 n) ≡ all n p
+unfolding all
+all_range zero p = refl
+all_range (suc n) p = ranged p 0 n ∙ rw (all_range n p, zero-add n)

@@ -1,13 +1,13 @@
 -- The laws of the elements of a list that pass a test, of one element more at its end, and of a loop that keeps those that pass.
 use Prim.Native.Nat.{ℕ, suc, ◌+◌, ◌≤◌, ◌<◌}
 use mathlib.Core.Bool.{Bool, true, false, not, ◌&&◌, ◌||◌, false≢true}
-use mathlib.Core.List.{List, [], ◌∷◌, ◌++◌, append-nil, map}
-use mathlib.Core.Path.{◌≡◌, refl, sym, ap, ap₂, ◌∙◌, subst}
+use mathlib.Core.List.{List, [], ◌∷◌, ◌++◌, map}
+use mathlib.Core.Path.{◌≡◌, refl, ap, ap₂, ◌∙◌}
 use native.Mathlib.Nat.{le_refl, le-suc}
 use native.Mathlib.Numerals.{add-one}
 use native.Mathlib.Omega.{arith}
-use lib.ListN.{length, get_or, set, take, length-set}
-use lib.Seq.{get_or-set_other, take-suc, take-suc-set}
+use lib.ListN.{length, get_or, set, take}
+use lib.Seq.{take-suc, take-suc-set}
 use borrow.Author.Tests.{not-true}
 use Rattle.octets.specs.Row.{keep, only}
 use Rattle.octets.specs.Search.{all_of, any_of, distinct}
@@ -81,7 +81,7 @@ module _ {A : Type 0} where
     only_last [] y = refl
     only_last (x ∷ l) y = ap (keep (p x) x) (only_last l y) ∙ keep_append (p x) x (only p l) (keep (p y) y [])
 
-    only_next : (l : List A) (i : ℕ) (d : A) → i < length l → only p (take (i + 1) l) ≡ only p (take i l) ++ keep (p (get_or l i d)) (get_or l i d) []
+    pub only_next : (l : List A) (i : ℕ) (d : A) → i < length l → only p (take (i + 1) l) ≡ only p (take i l) ++ keep (p (get_or l i d)) (get_or l i d) []
     only_next l i d h = ap (λ (k : ℕ). only p (take k l)) (add-one i) ∙ ap (only p) (take-suc l i d h) ∙ only_last (take i l) (get_or l i d)
 
   -- an element stored behind the first n
@@ -138,49 +138,3 @@ module _ {A B : Type 0} (f : A → B) where
   unfolding distinct
   distinct_map alike [] = refl
   distinct_map alike (x ∷ l) = ap₂ (λ (s t : Bool). not s && t) (any_map (alike (f x)) l) (distinct_map alike l)
-
--- those of the first i elements of a list that pass stand in their order at the front, and those behind the first i are as they were
-pub record Kept {A : Type 0} (p : A → Bool) (l : List A) (i : ℕ) (kept : List A) (count : ℕ) : Type 0 where
-  pub few : count ≤ i
-  pub long : length kept ≡ length l
-  pub front : take count kept ≡ only p (take i l)
-  pub behind : (j : ℕ) (d : A) → i ≤ j → get_or kept j d ≡ get_or l j d
-
-module _ {A : Type 0} {p : A → Bool} {l : List A} where
-  -- none is passed yet
-  pub kept_none : Kept p l 0 l 0
-  unfolding only
-  kept_none = record { few = le_refl 0; long = refl; front = refl; behind = λ j d h. refl }
-
-  -- all n are passed
-  pub kept_whole : {i n count : ℕ} {kept : List A} → i ≡ n → Kept p l i kept count → (take count kept ≡ only p (take n l)) × (count ≤ n)
-  kept_whole {i} {n} {count} {kept} e k = (subst (λ (j : ℕ). take count kept ≡ only p (take j l)) e k.front, omega arith)
-
-  module _ {i count : ℕ} {kept : List A} (d : A) (k : Kept p l i kept count) (inside : i < length l) where
-    abbrev x : A
-    x = get_or kept i d
-
-    next : only p (take i l) ++ keep (p x) x [] ≡ only p (take (i + 1) l)
-    next = ap (λ (y : A). only p (take i l) ++ keep (p y) y []) (k.behind i d (le_refl i)) ∙ sym (only_next p l i d inside)
-
-    -- the next element passes and is stored behind them
-    pub kept_more : {count' : ℕ} {kept' : List A} → p x ≡ true → kept' ≡ set kept count x → count' ≡ count + 1 → Kept p l (i + 1) kept' count'
-    unfolding keep
-    kept_more passes stored more =
-        let room : count < length kept = omega arith in
-        record {
-          few = omega arith;
-          long = ap length stored ∙ length-set kept count x ∙ k.long;
-          front = ap₂ take more stored ∙ stored_behind kept count x room ∙ ap₂ (λ (m : List A) (t : Bool). m ++ keep t x []) k.front (sym passes) ∙ next;
-          behind = λ j e h. ap (λ (m : List A). get_or m j e) stored ∙ get_or-set_other kept count j x e (λ q. omega (arith, q)) ∙ k.behind j e (omega arith);
-        }
-
-    -- the next element fails
-    pub kept_same : {count' : ℕ} {kept' : List A} → p x ≡ false → kept' ≡ kept → count' ≡ count → Kept p l (i + 1) kept' count'
-    unfolding keep
-    kept_same fails stored same = record {
-      few = omega arith;
-      long = ap length stored ∙ k.long;
-      front = ap₂ take same stored ∙ k.front ∙ sym (append-nil (only p (take i l))) ∙ ap (λ (t : Bool). only p (take i l) ++ keep t x []) (sym fails) ∙ next;
-      behind = λ j e h. ap (λ (m : List A). get_or m j e) stored ∙ k.behind j e (omega arith);
-    }

@@ -1,7 +1,5 @@
 -- Lists of anything: values by number, the elements that pass a test, and the first of them.
-use Rattle.std.specs.Prelude.{ℕ, zero, suc, ◌<◌, Bool, true, false, cond, List, [], ◌∷◌, ◌++◌, ◌≡◌}
-use Rattle.std.proofs.Math.Option.{Option, none, some}
-use Rattle.std.proofs.Math.ListN.{get_elem?}
+use Rattle.std.specs.Prelude.{ℕ, zero, suc, ◌<◌, Bool, true, false, cond, List, [], ◌∷◌, ◌++◌, ◌≡◌, Option, None, Some, slice_get}
 
 module _ {A : Type 0} where
   -- n values of f, the one at k first
@@ -21,8 +19,8 @@ module _ {A : Type 0} where
 
   -- the first element that passes
   unfoldable pub first : (A → Bool) → List A → Option A
-  first p [] = none
-  first p (x ∷ xs) = cond (p x) (some x) (first p xs)
+  first p [] = None
+  first p (x ∷ xs) = cond (p x) (Some x) (first p xs)
 
   -- one element more, where it passes
   unfoldable pub keep : Bool → A → List A → List A
@@ -34,17 +32,12 @@ module _ {A : Type 0} where
   only p [] = []
   only p (x ∷ xs) = keep (p x) x (only p xs)
 
-  -- there is a value
-  unfoldable pub is_some : Option A → Bool
-  is_some none = false
-  is_some (some x) = true
-
   -- a is the element at k, it passes, and no element before it does
   pub record FirstAt (p : A → Bool) (l : List A) (k : ℕ) (a : A) : Type 0 where
-    pub there : get_elem? l k ≡ some a
+    pub there : slice_get l k ≡ Some a
     pub passes : p a ≡ true
-    pub none_before : (j : ℕ) (b : A) → j < k → get_elem? l j ≡ some b → p b ≡ false
+    pub none_before : (j : ℕ) (b : A) → j < k → slice_get l j ≡ Some b → p b ≡ false
 
   -- no element passes
   abbrev pub NonePasses : (A → Bool) → List A → Type 0
-  NonePasses p l = (j : ℕ) (b : A) → get_elem? l j ≡ some b → p b ≡ false
+  NonePasses p l = (j : ℕ) (b : A) → slice_get l j ≡ Some b → p b ≡ false

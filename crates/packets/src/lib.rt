@@ -2,130 +2,129 @@
 #![tactic(auto)]
 
 ghost use Rattle.std.specs.Prelude.{[], ◌≡◌, length};
-ghost use Rattle.packets.specs.Packets.{fields_only, packet_returned, read_parameter, read_request, read_response, read_timer, refused_by, write_response};
+ghost use Rattle.refusal.specs.Numbers.{number_in};
+ghost use Rattle.packets.specs.Packets.{fields_in, read_parameter, read_request, read_response, read_timer, told, write_response};
 
-use buffer::number::{MOST_OCTET, get};
-use eap::{Packet, is_message, is_nas_request, is_success};
+use buffer::number::MOST_OCTET;
+use eap::Packet;
 use parameter_reader::reader::read_from;
-use parameters::{MOST_PARAMETERS, Parameter};
+use parameters::MOST_PARAMETERS;
+use refusal::Refusal;
 use timer::Timer;
 
-// A refused call answers six zeros.
-fn refused(number: u64, fields: &mut [u64; 6]) -> u64
-    ensures { packet_returned result fields.new [] ≡ refused_by number 0 }
+// The number of a call, 0 where it is accepted, and its six numbers, zeros where it is refused.
+#[tactic(auto, unfolding(octets::specs::Part::zeros))]
+pub fn returned(outcome: Result<[u64; 6], Refusal>, fields: &mut [u64; 6]) -> u64
+    ensures value { result ≡ number_in outcome }
+    ensures fields_after { fields.new ≡ fields_in outcome }
 {
-    *fields = [0; 6];
-    number
-}
-
-// An accepted one answers its numbers.
-fn accepted(numbers: [u64; 6], fields: &mut [u64; 6]) -> u64
-    ensures { packet_returned result fields.new [] ≡ fields_only numbers }
-{
-    *fields = numbers;
-    0
+    match outcome {
+        Ok(numbers) => {
+            *fields = numbers;
+            0
+        }
+        Err(refusal) => {
+            *fields = [0; 6];
+            refusal.number()
+        }
+    }
 }
 
 // Reads Start, a NAS request or Success.
-pub fn read_request(packet: &[u8], fields: &mut [u64; 6]) -> u64
-    ensures { packet_returned result fields.new [] ≡ read_request packet.now }
+#[tactic(auto, unfolding(crate::specs::Packets::read_request, crate::specs::Packets::fields_only, crate::specs::Packets::refused_by, crate::specs::Packets::request_answer, eap::specs::Packet::is_request, eap::specs::Packet::packet_numbers, octets::specs::Part::padded, octets::specs::Part::zeros))]
+pub fn read_request(packet: &[u8]) -> Result<[u64; 6], Refusal>
+    ensures { told result [] ≡ read_request packet.now }
 {
-    if is_message(packet, 1, 1) {
-        return accepted([1, get(packet, 1, 1), 0, 0, 0, 0], fields);
+    match eap::read(packet) {
+        Some(Packet::Start { identifier }) => Ok([1, identifier, 0, 0, 0, 0]),
+        Some(
+            Packet::NasRequest {
+                identifier,
+                nas,
+                nas_length,
+            },
+        ) => Ok([2, identifier, 0, 0, nas as u64, nas_length as u64]),
+        Some(Packet::Success { identifier }) => Ok([3, identifier, 0, 0, 0, 0]),
+        _ => Err(Refusal::Malformed),
     }
-    if is_nas_request(packet) {
-        return accepted([2, get(packet, 1, 1), 0, 0, 16, get(packet, 14, 2)], fields);
-    }
-    if is_success(packet) {
-        return accepted([3, get(packet, 1, 1), 0, 0, 0, 0], fields);
-    }
-    refused(9, fields)
 }
 
 // Reads a NAS response.
-pub fn read_response(packet: &[u8], fields: &mut [u64; 6]) -> u64
-    ensures { packet_returned result fields.new [] ≡ read_response packet.now }
+#[tactic(auto, unfolding(crate::specs::Packets::read_response, crate::specs::Packets::fields_only, crate::specs::Packets::refused_by, crate::specs::Packets::response_answer, eap::specs::Packet::packet_numbers, octets::specs::Part::zeros))]
+pub fn read_response(packet: &[u8]) -> Result<[u64; 6], Refusal>
+    ensures { told result [] ≡ read_response packet.now }
 {
-    if !is_message(packet, 2, 2) {
-        return refused(9, fields);
-    }
-    let Packet::NasResponse {
-        identifier,
-        parameters,
-        parameters_length,
-        nas,
-        nas_length,
-    } = eap::read_response(packet)
-    else {
-        return refused(9, fields);
-    };
-    accepted(
-        [
-            2,
+    let Some(
+        Packet::NasResponse {
             identifier,
-            parameters as u64,
-            parameters_length as u64,
-            nas as u64,
-            nas_length as u64,
-        ],
-        fields,
-    )
+            parameters,
+            parameters_length,
+            nas,
+            nas_length,
+        },
+    ) = eap::read(packet)
+    else {
+        return Err(Refusal::Malformed);
+    };
+    Ok([
+        2,
+        identifier,
+        parameters as u64,
+        parameters_length as u64,
+        nas as u64,
+        nas_length as u64,
+    ])
 }
 
-// Writes a NAS response and zeros after it, or zeros alone.
+// Writes a NAS response and zeros after it, or zeros alone where it is refused.
+#[tactic(auto, unfolding(crate::specs::Packets::write_response, crate::specs::Packets::unless_refused, crate::specs::Packets::refused_by, eap::specs::Packet::packet_numbers, response::specs::Response::written_packet, response::specs::Response::written))]
 pub fn write_response(
     identifier: u64,
     parameters: &[u8],
     nas: &[u8],
     packet: &mut [u8],
-    fields: &mut [u64; 6],
-) -> u64
-    ensures { packet_returned result fields.new packet.new ≡ write_response identifier parameters.now nas.now (length packet.old) }
+) -> Result<[u64; 6], Refusal>
+    ensures { told result packet.new ≡ write_response identifier parameters.now nas.now (length packet.old) }
 {
-    let number = response::write_response(identifier, parameters, nas, packet);
-    if number != 0 {
-        return refused(number, fields);
-    }
+    response::write_response(identifier, parameters, nas, packet)?;
     let n = parameters.len() as u64;
-    accepted([2, identifier, 16, n, 18 + n, nas.len() as u64], fields)
+    Ok([2, identifier, 16, n, 18 + n, nas.len() as u64])
 }
 
 // Reads the AN-parameter at a place.
-pub fn read_parameter(parameters: &[u8], at: u64, fields: &mut [u64; 6]) -> u64
-    ensures { packet_returned result fields.new [] ≡ read_parameter parameters.now at }
+#[tactic(auto, unfolding(crate::specs::Packets::read_parameter, crate::specs::Packets::parameter_refusal, crate::specs::Packets::parameter_numbers, crate::specs::Packets::is_broken, crate::specs::Packets::unless_refused, crate::specs::Packets::fields_only, crate::specs::Packets::refused_by, octets::specs::Refusal::refusal, octets::specs::Part::zeros))]
+pub fn read_parameter(parameters: &[u8], at: u64) -> Result<[u64; 6], Refusal>
+    ensures { told result [] ≡ read_parameter parameters.now at }
 {
     let n = parameters.len();
-    if MOST_PARAMETERS < n {
-        return refused(8, fields);
-    }
-    if (n as u64) < at {
-        return refused(8, fields);
+    if MOST_PARAMETERS < n || (n as u64) < at {
+        return Err(Refusal::Range);
     }
     match read_from(parameters, at as usize) {
-        Parameter::Whole {
-            kind,
-            start,
-            length,
-            next,
-        } => accepted(
-            [1, kind, start as u64, length as u64, next as u64, 0],
-            fields,
-        ),
-        Parameter::End => accepted([0; 6], fields),
-        Parameter::Broken => refused(9, fields),
+        Ok(Some(found)) => Ok([
+            1,
+            found.kind,
+            found.start as u64,
+            found.length as u64,
+            found.next as u64,
+            0,
+        ]),
+        Ok(None) => Ok([0; 6]),
+        Err(_) => Err(Refusal::Malformed),
     }
 }
 
 // Reads a timer octet.
-pub fn read_timer(octet: u64, fields: &mut [u64; 6]) -> u64
-    ensures { packet_returned result fields.new [] ≡ read_timer octet }
+#[tactic(auto, unfolding(crate::specs::Packets::read_timer, crate::specs::Packets::fields_only, crate::specs::Packets::refused_by, timer::specs::Timer::timer_numbers, octets::specs::Part::padded, octets::specs::Part::zeros))]
+pub fn read_timer(octet: u64) -> Result<[u64; 6], Refusal>
+    ensures { told result [] ≡ read_timer octet }
 {
     if MOST_OCTET < octet {
-        return refused(8, fields);
+        return Err(Refusal::Range);
     }
     match timer::read(octet as u8) {
-        Timer::None => accepted([0; 6], fields),
-        Timer::Seconds(n) => accepted([1, n, 0, 0, 0, 0], fields),
-        Timer::Deactivated => accepted([2, 0, 0, 0, 0, 0], fields),
+        Timer::None => Ok([0; 6]),
+        Timer::Seconds(n) => Ok([1, n, 0, 0, 0, 0]),
+        Timer::Deactivated => Ok([2, 0, 0, 0, 0, 0]),
     }
 }

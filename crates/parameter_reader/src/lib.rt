@@ -6,33 +6,31 @@ pub mod reader;
 ghost use Rattle.std.specs.Prelude.{◌≡◌};
 ghost use Rattle.parameters.specs.Parameters.{parameter_at, well_formed};
 
-use buffer::number::get;
-use parameters::Parameter;
+use parameters::{Broken, Parameter};
 
-// The AN-parameter at a place.
-pub fn parameter_at(parameters: &[u8], at: usize) -> Parameter
+// The AN-parameter at a place, none at the end of the block.
+pub fn parameter_at(parameters: &[u8], at: usize) -> Result<Option<Parameter>, Broken>
     ensures { result ≡ parameter_at parameters.now at }
 {
-    let n = parameters.len();
-    if at == n {
-        return Parameter::End;
+    if parameters.len() < at {
+        return Err(Broken);
     }
-    if n < at {
-        return Parameter::Broken;
-    }
-    if n - at < 2 {
-        return Parameter::Broken;
-    }
-    let length = get(parameters, at + 1, 1) as usize;
-    let start = at + 2;
-    if n - start < length {
-        return Parameter::Broken;
-    }
-    Parameter::Whole {
-        kind: get(parameters, at, 1),
-        start,
-        length,
-        next: start + length,
+    match &parameters[at..] {
+        [] => Ok(None),
+        [kind, length, value @ ..] => {
+            let length = *length as usize;
+            if value.len() < length {
+                return Err(Broken);
+            }
+            let start = at + 2;
+            Ok(Some(Parameter {
+                kind: *kind as u64,
+                start,
+                length,
+                next: start + length,
+            }))
+        }
+        _ => Err(Broken),
     }
 }
 
@@ -41,23 +39,11 @@ pub fn well_formed(parameters: &[u8]) -> bool
     ensures { result ≡ well_formed parameters.now }
 {
     let mut at = 0;
-    while at < parameters.len() {
+    loop {
         match parameter_at(parameters, at) {
-            Parameter::Whole {
-                kind: _,
-                start: _,
-                length: _,
-                next,
-            } => {
-                at = next;
-            }
-            Parameter::End => {
-                return false;
-            }
-            Parameter::Broken => {
-                return false;
-            }
+            Ok(Some(parameter)) => at = parameter.next,
+            Ok(None) => return true,
+            Err(_) => return false,
         }
     }
-    true
 }

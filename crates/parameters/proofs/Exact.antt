@@ -2,34 +2,34 @@
 use Prim.Native.Nat.{ℕ, zero, suc, ◌+◌, ◌≤◌}
 use mathlib.Core.Bool.{Bool, true, false, cond, ◌&&◌, false≢true}
 use mathlib.Core.List.{List, [], ◌∷◌, ◌++◌}
-use mathlib.Core.Path.{◌≡◌, refl, ap, ap₂, ◌∙◌}
-use native.Mathlib.Omega.{arith}
+use mathlib.Core.Path.{◌≡◌, refl, ap, ap₂, ◌∙◌, subst}
+use Rattle.std.specs.Prelude.{None, Some, Ok}
 use lib.Dec.{leb, eqb}
 use lib.ListN.{length, take, drop, take-append-drop}
 use lib.Seq.{length-take-le}
 use borrow.Author.Tests.{leb-true}
 use Rattle.octets.specs.Row.{joined}
 use Rattle.octets.proofs.Search.{and_left, and_right}
-use Rattle.parameters.specs.Parameters.{size, whole_at, parameter_at, well_formed, well_formed_in}
+use Rattle.parameters.specs.Parameters.{overrun, size, whole_at, parameter_at, well_formed, well_formed_in}
 use Rattle.parameters.specs.Reading.{an_parameters, an_parameters_in, parameter_octets}
-use Rattle.parameters.specs.declared.Parameter.TheVariants.{Whole, End, Broken}
+use Rattle.parameters.specs.declared.Parameter.{Parameter}
 
 -- the value starts behind two octets and ends where the next AN-parameter begins, within the block
-pub whole_lies : (l : List ℕ) (at kind start n next : ℕ) → parameter_at l at ≡ Whole kind start n next → (start ≡ at + 2) × (start + n ≡ next) × (next ≤ length l)
+pub whole_lies : (l : List ℕ) (at : ℕ) (p : Parameter) → parameter_at l at ≡ Ok (Some p)
+    → (p.start ≡ at + 2) × (p.start + p.length ≡ p.next) × (p.next ≤ length l)
 unfolding parameter_at
-whole_lies l at kind start n next e = go (eqb at (length l)) (leb (at + 2) (length l)) (leb (at + 2 + size l at) (length l)) refl e
+whole_lies l at p e = go (eqb at (length l)) (leb (at + 2) (length l)) (leb (at + 2 + size l at) (length l)) refl e
   where
     go : (d t u : Bool) → leb (at + 2 + size l at) (length l) ≡ u
-        → cond d End (cond (t && u) (whole_at l at) Broken) ≡ Whole kind start n next
-        → (start ≡ at + 2) × (start + n ≡ next) × (next ≤ length l)
-    go true t u q e = let z : ◌≡◌ {A = ℕ} 0 1 = cc in omega arith
-    go false false u q e = let z : ◌≡◌ {A = ℕ} 0 1 = cc in omega arith
-    go false true false q e = let z : ◌≡◌ {A = ℕ} 0 1 = cc in omega arith
+        → cond d (Ok None) (cond (t && u) (Ok (Some (whole_at l at))) overrun) ≡ Ok (Some p)
+        → (p.start ≡ at + 2) × (p.start + p.length ≡ p.next) × (p.next ≤ length l)
+    go true t u q e = cc
+    go false false u q e = cc
+    go false true false q e = cc
     go false true true q e =
-        let starts : start ≡ at + 2 = cc in
-        let long : n ≡ size l at = cc in
-        let ends : next ≡ at + 2 + size l at = cc in
-        (starts, omega arith, omega (arith, leb-true))
+        let is : whole_at l at ≡ p = cc in
+        subst (λ (p : Parameter). (p.start ≡ at + 2) × (p.start + p.length ≡ p.next) × (p.next ≤ length l)) is
+        (refl, refl, leb-true _ _ q)
 
 -- at most n AN-parameters, written one behind the other, are a list that they end exactly with
 back : (n : ℕ) (l : List ℕ) → well_formed_in n l ≡ true → joined parameter_octets (an_parameters_in n l) ≡ l

@@ -5,15 +5,16 @@ use mathlib.Core.List.{List, [], ◌∷◌, ◌++◌, map}
 use mathlib.Core.Path.{◌≡◌, refl, ap, ◌∙◌}
 use native.Mathlib.Numerals.{add-one}
 use native.Mathlib.Omega.{arith}
+use Rattle.std.specs.Prelude.{Option, None, Some, Result, Ok}
 use lib.Dec.{leb}
 use lib.ListN.{length, drop, length-drop, drop_of_length-le}
 use lib.Seq.{drop-drop}
 use borrow.Author.Tests.{le-leb, lt-leb, leb-true, leb-false}
 use Rattle.octets.specs.Part.{part}
-use Rattle.parameters.specs.Parameters.{size, whole_at, parameter_at, well_formed, well_formed_in}
+use Rattle.parameters.specs.Parameters.{overrun, size, whole_at, parameter_at, well_formed, well_formed_in}
 use Rattle.parameters.specs.Reading.{Reading, an_parameters, an_parameters_in, behind, broken, ending, finished, is_whole, parameter, place_after, reading_of, readings, readings_from}
 use Rattle.parameters.specs.declared.Parameter.{Parameter}
-use Rattle.parameters.specs.declared.Parameter.TheVariants.{End, Broken}
+use Rattle.parameters.specs.declared.Broken.{Broken}
 use Rattle.parameters.proofs.Walk.{cut, ends, fits, no_room, no_value, none_left, one, overruns, passes, two}
 
 -- at most n AN-parameters of a list, and then the last reading
@@ -29,7 +30,7 @@ empty_none (suc n) = refl
 module _ (l : List ℕ) (at : ℕ) where
   -- the AN-parameters from a place on: a whole one and those behind it, none where it does not fit
   whole_first : (n : ℕ) → at + 2 + size l at ≤ length l
-      → map parameter (an_parameters_in (suc n) (drop at l)) ≡ reading_of l (whole_at l at) ∷ map parameter (an_parameters_in n (drop (at + 2 + size l at) l))
+      → map parameter (an_parameters_in (suc n) (drop at l)) ≡ reading_of l (Ok (Some (whole_at l at))) ∷ map parameter (an_parameters_in n (drop (at + 2 + size l at) l))
   unfolding an_parameters_in part reading_of
   whole_first n h = rw (two l at (omega arith), drop-drop (size l at) (at + 2) l, le-leb (size l at) (length (drop (at + 2) l)) (rw length-drop (omega arith)))
 
@@ -42,11 +43,11 @@ module _ (l : List ℕ) (at : ℕ) where
   cut_none n e = rw (one l at e)
 
   -- reading on behind a whole one, and stopping at anything else
-  goes : (n : ℕ) (p : Parameter) → p ≡ parameter_at l at → is_whole p ≡ true → readings_from (suc n) l at ≡ reading_of l p ∷ readings_from n l (behind at p)
+  goes : (n : ℕ) (p : Result (Option Parameter) Broken) → p ≡ parameter_at l at → is_whole p ≡ true → readings_from (suc n) l at ≡ reading_of l p ∷ readings_from n l (behind at p)
   unfolding readings_from place_after
   goes n p e on = rw (← e, on)
 
-  stops : (n : ℕ) (p : Parameter) → p ≡ parameter_at l at → is_whole p ≡ false → readings_from (suc n) l at ≡ reading_of l p ∷ []
+  stops : (n : ℕ) (p : Result (Option Parameter) Broken) → p ≡ parameter_at l at → is_whole p ≡ false → readings_from (suc n) l at ≡ reading_of l p ∷ []
   unfolding readings_from
   stops n p e off = rw (← e, off)
 
@@ -54,12 +55,12 @@ module _ (l : List ℕ) (at : ℕ) where
   unfolding reading_of is_whole
   at_end n e =
       let past : length l ≤ at = omega arith in
-      rw (drop_of_length-le l past, empty_none n, none_left n) (stops n End (ends l at e) refl)
+      rw (drop_of_length-le l past, empty_none n, none_left n) (stops n (Ok None) (ends l at e) refl)
 
-  at_broken : (n : ℕ) → Broken ≡ parameter_at l at → an_parameters_in (suc n) (drop at l) ≡ [] → well_formed_in (suc n) (drop at l) ≡ false
+  at_broken : (n : ℕ) → overrun ≡ parameter_at l at → an_parameters_in (suc n) (drop at l) ≡ [] → well_formed_in (suc n) (drop at l) ≡ false
       → readings_from (suc (suc n)) l at ≡ in_all (suc n) (drop at l)
   unfolding reading_of is_whole
-  at_broken n e none bad = rw (none, bad) (stops (suc n) Broken e refl)
+  at_broken n e none bad = rw (none, bad) (stops (suc n) overrun e refl)
 
   module _ (other : at ≡ length l → ⊥) where
     at_whole : (n : ℕ) → at + 2 + size l at ≤ length l → readings_from (suc n) l (at + 2 + size l at) ≡ in_all n (drop (at + 2 + size l at) l)
@@ -67,7 +68,7 @@ module _ (l : List ℕ) (at : ℕ) where
     unfolding is_whole behind
     at_whole n h rest =
         rw (whole_first n h, passes l at n h)
-        (goes (suc n) (whole_at l at) (fits l at other h) refl ∙ ap (λ (rs : List Reading). reading_of l (whole_at l at) ∷ rs) rest)
+        (goes (suc n) (Ok (Some (whole_at l at))) (fits l at other h) refl ∙ ap (λ (rs : List Reading). reading_of l (Ok (Some (whole_at l at))) ∷ rs) rest)
 
 -- reading on from any place gives the AN-parameters from there, and the end
 from_place : (n : ℕ) (l : List ℕ) (at : ℕ) → at ≤ length l → length l ≤ at + n → readings_from (suc n) l at ≡ in_all n (drop at l)

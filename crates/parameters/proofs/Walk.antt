@@ -6,6 +6,7 @@ use mathlib.Core.Path.{◌≡◌, refl, sym, ap, ap₂, ◌∙◌}
 use native.Mathlib.Nat.{zero-mul, zero-add, ne_of_lt}
 use native.Mathlib.Numerals.{add-one}
 use native.Mathlib.Omega.{arith}
+use Rattle.std.specs.Prelude.{None, Some, Ok, Err}
 use lib.Dec.{leb}
 use lib.ListN.{length, get_or, drop, length-drop, drop_of_length-le}
 use lib.Seq.{drop-cons, drop-drop}
@@ -13,8 +14,9 @@ use borrow.Author.Tests.{le-leb, lt-leb, leb-true, leb-false, eq-eqb, ne_eqb}
 use Rattle.octets.specs.Digits.{field, number, number_from}
 use Rattle.octets.specs.Part.{part}
 use Rattle.octets.proofs.Search.{and_right}
-use Rattle.parameters.specs.Parameters.{well_formed_in, size, whole_at, parameter_at}
-use Rattle.parameters.specs.declared.Parameter.TheVariants.{Whole, End, Broken}
+use Rattle.parameters.specs.Parameters.{overrun, well_formed_in, size, whole_at, parameter_at}
+use Rattle.parameters.specs.declared.Parameter.{Parameter}
+use Rattle.parameters.specs.declared.Broken.{Broken}
 
 -- one octet says itself
 pub field_one : (l : List ℕ) (at : ℕ) → at < length l → field l at 1 ≡ get_or l at 0
@@ -66,52 +68,54 @@ module _ (l : List ℕ) (at : ℕ) (more : at < length l) where
   abbrev inside : Bool
   inside = leb (at + 2) (length l) && leb (at + 2 + size l at) (length l)
 
-  reading : parameter_at l at ≡ cond inside (whole_at l at) Broken
+  reading : parameter_at l at ≡ cond inside (Ok (Some (whole_at l at))) overrun
   unfolding parameter_at
   reading = rw (ne_eqb at (length l) (λ e. ne_of_lt more e))
 
   -- a whole one leads to the next place
-  pub whole_next : (kind start long next : ℕ) → Whole kind start long next ≡ parameter_at l at → (next ≡ at + 2 + size l at) × (at + 2 + size l at ≤ length l)
-  whole_next kind start long next e = go inside refl (e ∙ reading)
+  pub whole_next : (p : Parameter) → Ok (Some p) ≡ parameter_at l at → (p.next ≡ at + 2 + size l at) × (at + 2 + size l at ≤ length l)
+  whole_next p e = go inside refl (e ∙ reading)
     where
-      go : (t : Bool) → inside ≡ t → Whole kind start long next ≡ cond t (whole_at l at) Broken
-          → (next ≡ at + 2 + size l at) × (at + 2 + size l at ≤ length l)
-      go true i q = (cc, leb-true _ _ (and_right (leb (at + 2) (length l)) (leb (at + 2 + size l at) (length l)) i))
-      go false i q = let z : ◌≡◌ {A = ℕ} 0 1 = cc in omega arith
+      go : (t : Bool) → inside ≡ t → Ok (Some p) ≡ cond t (Ok (Some (whole_at l at))) overrun
+          → (p.next ≡ at + 2 + size l at) × (at + 2 + size l at ≤ length l)
+      go true i q =
+          let is : p ≡ whole_at l at = cc in
+          (ap (λ (p : Parameter). p.next) is, leb-true _ _ (and_right (leb (at + 2) (length l)) (leb (at + 2 + size l at) (length l)) i))
+      go false i q = cc
 
   -- a broken one ends the walk
-  pub broken_fails : (n : ℕ) → Broken ≡ parameter_at l at → well_formed_in (suc n) (drop at l) ≡ false
-  broken_fails n e = go (leb (at + 2) (length l)) refl (leb (at + 2 + size l at) (length l)) refl (e ∙ reading)
+  pub broken_fails : (n : ℕ) (b : Broken) → Err b ≡ parameter_at l at → well_formed_in (suc n) (drop at l) ≡ false
+  broken_fails n b e = go (leb (at + 2) (length l)) refl (leb (at + 2 + size l at) (length l)) refl (e ∙ reading)
     where
       go : (t : Bool) → leb (at + 2) (length l) ≡ t → (u : Bool) → leb (at + 2 + size l at) (length l) ≡ u
-          → Broken ≡ cond (t && u) (whole_at l at) Broken → well_formed_in (suc n) (drop at l) ≡ false
+          → Err b ≡ cond (t && u) (Ok (Some (whole_at l at))) overrun → well_formed_in (suc n) (drop at l) ≡ false
       go true p true q b = cc
       go true p false q b = overruns l at n (leb-true _ _ p) (leb-false _ _ q)
       go false p u q b = cut l at n (omega (arith, leb-false))
 
   -- the end is not here
-  pub not_end : End ≡ parameter_at l at → ⊥
+  pub not_end : Ok None ≡ parameter_at l at → ⊥
   not_end e = go inside (e ∙ reading)
     where
-      go : (t : Bool) → End ≡ cond t (whole_at l at) Broken → ⊥
-      go true q = let z : ◌≡◌ {A = ℕ} 0 1 = cc in omega arith
-      go false q = let z : ◌≡◌ {A = ℕ} 0 1 = cc in omega arith
+      go : (t : Bool) → Ok None ≡ cond t (Ok (Some (whole_at l at))) overrun → ⊥
+      go true q = cc
+      go false q = cc
 
 -- what reading one AN-parameter answers
 module _ (l : List ℕ) (at : ℕ) where
-  pub ends : at ≡ length l → End ≡ parameter_at l at
+  pub ends : at ≡ length l → Ok None ≡ parameter_at l at
   unfolding parameter_at
   ends e = simp (eq-eqb at (length l) e)
 
   module _ (other : at ≡ length l → ⊥) where
-    pub no_room : length l < at + 2 → Broken ≡ parameter_at l at
+    pub no_room : length l < at + 2 → overrun ≡ parameter_at l at
     unfolding parameter_at
     no_room h = simp (ne_eqb at (length l) other, lt-leb (at + 2) (length l) h)
 
-    pub no_value : at + 2 ≤ length l → length l < at + 2 + size l at → Broken ≡ parameter_at l at
+    pub no_value : at + 2 ≤ length l → length l < at + 2 + size l at → overrun ≡ parameter_at l at
     unfolding parameter_at
     no_value h k = simp (ne_eqb at (length l) other, le-leb (at + 2) (length l) h, lt-leb (at + 2 + size l at) (length l) k)
 
-    pub fits : at + 2 + size l at ≤ length l → whole_at l at ≡ parameter_at l at
+    pub fits : at + 2 + size l at ≤ length l → Ok (Some (whole_at l at)) ≡ parameter_at l at
     unfolding parameter_at
     fits h = simp (ne_eqb at (length l) other, le-leb (at + 2) (length l) (omega arith), le-leb (at + 2 + size l at) (length l) h)

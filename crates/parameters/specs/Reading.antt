@@ -1,10 +1,10 @@
 -- Reading the AN-parameters of a block one after another, from its start.
 -- A reader keeps hold of the block of AN-parameters of a packet, and places count from the block's start.
-use Rattle.std.specs.Prelude.{ℕ, zero, suc, ◌+◌, Bool, true, false, cond, List, [], ◌∷◌, leb, length, take, drop}
+use Rattle.std.specs.Prelude.{ℕ, zero, suc, ◌+◌, Bool, true, false, cond, List, [], ◌∷◌, leb, length, take, drop, Option, None, Some, Result, Ok, Err}
 use Rattle.octets.specs.Part.{part}
 use Rattle.parameters.specs.Parameters.{parameter_at, well_formed}
 use Rattle.parameters.specs.declared.Parameter.{Parameter}
-use Rattle.parameters.specs.declared.Parameter.TheVariants.{Whole, End, Broken}
+use Rattle.parameters.specs.declared.Broken.{Broken}
 
 -- an AN-parameter: its type and the octets of its value
 pub record AnParameter : Type 0 where
@@ -34,22 +34,22 @@ pub data Reading : Type 0 where
   broken : Reading
 
 -- the reading of what stands at a place of a block
-unfoldable pub reading_of : List ℕ → Parameter → Reading
-reading_of l (Whole kind start n next) = parameter (record { kind = kind; value = part l start n })
-reading_of l End = finished
-reading_of l Broken = broken
+unfoldable pub reading_of : List ℕ → Result (Option Parameter) Broken → Reading
+reading_of l (Ok (Some p)) = parameter (record { kind = p.kind; value = part l p.start p.length })
+reading_of l (Ok None) = finished
+reading_of l (Err e) = broken
 
 -- a whole AN-parameter, behind which a reader goes on
-unfoldable pub is_whole : Parameter → Bool
-is_whole (Whole kind start n next) = true
-is_whole End = false
-is_whole Broken = false
+unfoldable pub is_whole : Result (Option Parameter) Broken → Bool
+is_whole (Ok (Some p)) = true
+is_whole (Ok None) = false
+is_whole (Err e) = false
 
 -- the place behind what stands at a place: the next one behind a whole AN-parameter, else the same
-unfoldable pub behind : ℕ → Parameter → ℕ
-behind at (Whole kind start n next) = next
-behind at End = at
-behind at Broken = at
+unfoldable pub behind : ℕ → Result (Option Parameter) Broken → ℕ
+behind at (Ok (Some p)) = p.next
+behind at (Ok None) = at
+behind at (Err e) = at
 
 -- the place that a reader at a place of a block reaches next
 unfoldable pub place_after : List ℕ → ℕ → ℕ

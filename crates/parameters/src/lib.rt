@@ -6,21 +6,18 @@ ghost use Rattle.parameters.specs.Laws.{Laws};
 // The most octets that AN-parameters have in all.
 pub const MOST_PARAMETERS: usize = 1024;
 
-// What stands at a place of a block of AN-parameters.
+// A whole AN-parameter of a block: its type, where its value starts, how long that is, and the place after it.
 #[derive(Clone, Copy)]
-pub enum Parameter {
-    // A whole one: its type, where its value starts, how long that is, and the place after it.
-    Whole {
-        kind: u64,
-        start: usize,
-        length: usize,
-        next: usize,
-    },
-    // The block ends here.
-    End,
-    // One that runs past the end, or a place past the end.
-    Broken,
+pub struct Parameter {
+    pub kind: u64,
+    pub start: usize,
+    pub length: usize,
+    pub next: usize,
 }
+
+// An AN-parameter that runs past the end of its block, or a place past the end.
+#[derive(Clone, Copy)]
+pub struct Broken;
 
 // Does nothing; its promise is the laws of this crate's definitions.
 pub fn laws()

@@ -13,25 +13,7 @@ use Rattle.octets.proofs.Sublists.{distinct_last, distinct_repeats}
 use Rattle.entry.specs.declared.field.Preferred.{Preferred}
 use Rattle.network.specs.Plmn.{among, same_plmn}
 use Rattle.network.specs.declared.Plmn.{Plmn}
-use Rattle.parser.specs.Section.{SectionIs}
-use Rattle.config.specs.Lines.{entries_from}
-use Rattle.config.specs.Settings.{plmn_in, most_listed, accepted, as_listed, section}
-use Rattle.config.specs.declared.Kind.{Kind}
-use Rattle.parser.specs.declared.list.Section.{Section}
-
--- entries that are not accepted
-pub not_accepted : (kind : Kind) (l : List ℕ) (at : ℕ) (list : List ℕ) (r : Section) → (r.ok ≡ false) × (r.count ≡ 0) × (r.next ≡ 0)
-    → false ≡ accepted (map plmn_in (section (as_listed kind) (entries_from l at))) → SectionIs kind l at list r
-not_accepted kind l at list r h e₀ =
-    let none : r.count ≡ 0 = h.1 in
-    let start : r.next ≡ 0 = h.2 in
-    record {
-      ok_is = h.0 ∙ e₀;
-      list_is = λ e. absurd (false≢true (sym h.0 ∙ e));
-      rest_is = λ e. absurd (false≢true (sym h.0 ∙ e));
-      count_within = omega arith;
-      next_within = omega arith;
-    }
+use Rattle.config.specs.Settings.{plmn_in, most_listed, accepted}
 
 -- the test of PLMNs goes both ways
 same_turned : (p q : Plmn) → same_plmn p q ≡ same_plmn q p
@@ -47,36 +29,36 @@ module _ (S d X : List Preferred) (split : S ≡ d ++ X) (new : distinct same_pl
   pub all_collected : X ≡ [] → S ≡ d
   all_collected e = split ∙ ap (λ (x : List Preferred). d ++ x) e ∙ append-nil d
 
-  pub all_accepted : X ≡ [] → length d ≤ most_listed → true ≡ accepted (map plmn_in S)
+  pub all_accepted : X ≡ [] → length d ≤ most_listed → accepted (map plmn_in S) ≡ true
   unfolding accepted
   all_accepted e h =
       let none : length X ≡ 0 = ap length e in
       let few : length (map plmn_in S) ≤ most_listed = omega (arith, size) in
-      sym (and_true (leb (length (map plmn_in S)) most_listed) (distinct same_plmn (map plmn_in S)) (le-leb (length (map plmn_in S)) most_listed few) (ap (λ (x : List Preferred). distinct same_plmn (map plmn_in x)) (all_collected e) ∙ new))
+      and_true (leb (length (map plmn_in S)) most_listed) (distinct same_plmn (map plmn_in S)) (le-leb (length (map plmn_in S)) most_listed few) (ap (λ (x : List Preferred). distinct same_plmn (map plmn_in x)) (all_collected e) ∙ new)
 
   module _ (p : Preferred) (Y : List Preferred) (more : X ≡ p ∷ Y) where
     -- one more than the most is left
-    too_many : length d ≡ most_listed → false ≡ accepted (map plmn_in S)
+    too_many : length d ≡ most_listed → accepted (map plmn_in S) ≡ false
     unfolding accepted
     too_many h =
         let one : length X ≡ suc (length Y) = ap length more in
         let many : most_listed < length (map plmn_in S) = omega (arith, size) in
-        sym (rw (lt-leb (length (map plmn_in S)) most_listed many))
+        rw (lt-leb (length (map plmn_in S)) most_listed many)
 
     -- the next one stands among those collected
-    repeated : among (plmn_in p) (map plmn_in d) ≡ true → false ≡ accepted (map plmn_in S)
+    repeated : among (plmn_in p) (map plmn_in d) ≡ true → accepted (map plmn_in S) ≡ false
     unfolding accepted among
     repeated h =
         let twice : distinct same_plmn (map plmn_in S) ≡ false =
         ap (λ (x : List Preferred). distinct same_plmn (map plmn_in x)) (split ∙ ap (λ (x : List Preferred). d ++ x) more)
         ∙ ap (distinct same_plmn) (map-append plmn_in d (p ∷ Y)) ∙ distinct_repeats same_plmn same_turned (map plmn_in d) (plmn_in p) (map plmn_in Y) h in
-        sym (and_false (leb (length (map plmn_in S)) most_listed) (distinct same_plmn (map plmn_in S)) twice)
+        and_false (leb (length (map plmn_in S)) most_listed) (distinct same_plmn (map plmn_in S)) twice
 
     -- the next one is not taken in
-    pub no_more : (n : ℕ) → length d ≡ n → (r : Bool) → among (plmn_in p) (map plmn_in d) ≡ r → eqb n most_listed || r ≡ true → false ≡ accepted (map plmn_in S)
+    pub no_more : (n : ℕ) → length d ≡ n → (r : Bool) → among (plmn_in p) (map plmn_in d) ≡ r → eqb n most_listed || r ≡ true → accepted (map plmn_in S) ≡ false
     no_more n size r found h = go (eqb n most_listed) r refl found h
       where
-        go : (t u : Bool) → eqb n most_listed ≡ t → among (plmn_in p) (map plmn_in d) ≡ u → t || u ≡ true → false ≡ accepted (map plmn_in S)
+        go : (t u : Bool) → eqb n most_listed ≡ t → among (plmn_in p) (map plmn_in d) ≡ u → t || u ≡ true → accepted (map plmn_in S) ≡ false
         go true u e f k = too_many (size ∙ eqb-true n most_listed e)
         go false true e f k = repeated f
         go false false e f k = absurd (false≢true k)

@@ -1,8 +1,5 @@
 -- The laws of a phase and its octets, for the proofs of the code over them.
 pub mod Waits
-pub mod Bools
-pub mod Places
-pub mod Phases
 pub mod Writes
 pub mod Reading
 pub mod Stages

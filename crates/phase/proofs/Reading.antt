@@ -1,4 +1,5 @@
 -- A phase in range is read back from its octets, part by part, and what is read is in range.
+use Rattle.std.specs.Prelude.{Option, None, Some}
 use Prim.Native.Nat.{ℕ, ◌+◌, ◌≤◌, ◌<◌}
 use mathlib.Core.Bool.{true, ◌&&◌, false≢true}
 use mathlib.Core.List.{List, ◌++◌}
@@ -15,8 +16,7 @@ use Rattle.octets.proofs.Fields.{field_below}
 use Rattle.octets.proofs.Parts.{both}
 use Rattle.octets.proofs.Search.{and_left, and_right, and_true, cond_passes}
 use Rattle.octets.proofs.Stands.{Stands, from_part, before, behind, says, zeros_stand}
-use Rattle.network.specs.declared.MaybePlmn.{MaybePlmn}
-use Rattle.network.specs.declared.MaybePlmn.TheVariants.{Is, None}
+use Rattle.network.specs.declared.Plmn.{Plmn}
 use Rattle.address.specs.Address.{is_version}
 use Rattle.address.specs.declared.Address.{Address}
 use Rattle.address.proofs.Numbers.{version_small}
@@ -50,13 +50,13 @@ module _ (l : List ℕ) (at : ℕ) {r : List ℕ} where
       let country : field l (at + 1) 2 ≡ mcc = says 2 mcc (omega arith) (behind (be 1 2) (be 2 mcc) 1 refl e) in
       (rw (kind, country), rw kind)
 
-  registered_back : (p : MaybePlmn) → registered_fits p ≡ true → Stands l at (registered_octets p) r → (registered_from l at ≡ p) × (registered_written l at ≡ true)
+  registered_back : (p : Option Plmn) → registered_fits p ≡ true → Stands l at (registered_octets p) r → (registered_from l at ≡ p) × (registered_written l at ≡ true)
   unfolding registered_octets registered_from registered_fits registered_written be digits zeros
   registered_back None h e =
       let kind : field l at 1 ≡ 0 = says 1 0 (omega arith) (before (be 1 0) (zeros 4) e) in
       let none : zeros_at l (at + 1) 4 ≡ true = zeros_stand 4 (behind (be 1 0) (zeros 4) 1 refl e) in
       (rw kind, rw (kind, none))
-  registered_back (Is p) h e =
+  registered_back (Some p) h e =
       let two = before (be 1 1 ++ be 2 p.mcc) (be 2 p.mnc) e in
       let small-mcc : p.mcc ≤ 999 = leb-true p.mcc 999 (and_left (leb p.mcc 999) (leb p.mnc 999) h) in
       let small-mnc : p.mnc ≤ 999 = leb-true p.mnc 999 (and_right (leb p.mcc 999) (leb p.mnc 999) h) in

@@ -9,12 +9,11 @@ use denote.Enum.Declared.{tag_of}
 use types.Run.{OneOf, miss}
 use borrow.Author.Tests.{eq-eqb, ne_eqb}
 use Rattle.address.specs.declared.Address.{Address}
-use Rattle.place.specs.declared.Facts.{Facts}
 use Rattle.phase.specs.declared.Turn.{Turn}
 use Rattle.phase.specs.Stage as Stage
 use Rattle.phase.specs.Stage.{is_in, stage_number, stage_of}
 use Rattle.phase.specs.declared.Phase.{Phase}
-use Rattle.phase.specs.declared.Phase.TheVariants.{Idle, Country, Name, Chosen, Init, Auth, Eap, Sure, Live}
+use Rattle.phase.specs.declared.Phase.TheVariants.{Idle, Auth, Eap}
 use Rattle.phase.specs.contracts.Phase.{the_type}
 
 module _ (s : Stage.Stage) (p : Phase) (n : ℕ) (number : n ≡ stage_number (stage_of p)) where
@@ -29,14 +28,7 @@ module _ (s : Stage.Stage) (p : Phase) (n : ℕ) (number : n ≡ stage_number (s
 -- the variants stand in the order of the numbers
 tag_number : (p : Phase) → tag_of the_type p ≡ stage_number (stage_of p)
 tag_number Idle = refl
-tag_number (Country f) = refl
-tag_number (Name f) = refl
-tag_number (Chosen a) = refl
-tag_number (Init a) = refl
-tag_number (Auth a) = refl
-tag_number (Eap a t) = refl
-tag_number (Sure a) = refl
-tag_number (Live a) = refl
+tag_number _ = refl
 
 -- the places of all variants
 abbrev pub tags : List ℕ
@@ -65,93 +57,14 @@ other_stage s p ns k =
 pub same_stage : {p q : Phase} → p ≡ q → is_in (stage_of q) p ≡ true
 same_stage {p} {q} e = is_in_lem (stage_of q) p (stage_number (stage_of q)) (ap (λ (x : Phase). stage_number (stage_of x)) (sym e)) refl
 
--- a phase that is not Country
-pub not_country : (p : Phase) → ((f : Facts) → p ≡ Country f → ⊥) → is_in Stage.country p ≡ false
-unfolding is_in
-not_country Idle h = refl
-not_country (Country f) h = absurd (h f refl)
-not_country (Name f) h = refl
-not_country (Chosen a) h = refl
-not_country (Init a) h = refl
-not_country (Auth a) h = refl
-not_country (Eap a t) h = refl
-not_country (Sure a) h = refl
-not_country (Live a) h = refl
-
--- a phase that is not Name
-pub not_name : (p : Phase) → ((f : Facts) → p ≡ Name f → ⊥) → is_in Stage.name p ≡ false
-unfolding is_in
-not_name Idle h = refl
-not_name (Country f) h = refl
-not_name (Name f) h = absurd (h f refl)
-not_name (Chosen a) h = refl
-not_name (Init a) h = refl
-not_name (Auth a) h = refl
-not_name (Eap a t) h = refl
-not_name (Sure a) h = refl
-not_name (Live a) h = refl
-
--- a phase that is not Chosen
-pub not_chosen : (p : Phase) → ((a : Address) → p ≡ Chosen a → ⊥) → is_in Stage.chosen p ≡ false
-unfolding is_in
-not_chosen Idle h = refl
-not_chosen (Country f) h = refl
-not_chosen (Name f) h = refl
-not_chosen (Chosen a) h = absurd (h a refl)
-not_chosen (Init a) h = refl
-not_chosen (Auth a) h = refl
-not_chosen (Eap a t) h = refl
-not_chosen (Sure a) h = refl
-not_chosen (Live a) h = refl
-
--- a phase that is not Init
-pub not_init : (p : Phase) → ((a : Address) → p ≡ Init a → ⊥) → is_in Stage.init p ≡ false
-unfolding is_in
-not_init Idle h = refl
-not_init (Country f) h = refl
-not_init (Name f) h = refl
-not_init (Chosen a) h = refl
-not_init (Init a) h = absurd (h a refl)
-not_init (Auth a) h = refl
-not_init (Eap a t) h = refl
-not_init (Sure a) h = refl
-not_init (Live a) h = refl
-
 -- a phase that is not Auth
 pub not_auth : (p : Phase) → ((a : Address) → p ≡ Auth a → ⊥) → is_in Stage.auth p ≡ false
 unfolding is_in
-not_auth Idle h = refl
-not_auth (Country f) h = refl
-not_auth (Name f) h = refl
-not_auth (Chosen a) h = refl
-not_auth (Init a) h = refl
 not_auth (Auth a) h = absurd (h a refl)
-not_auth (Eap a t) h = refl
-not_auth (Sure a) h = refl
-not_auth (Live a) h = refl
+not_auth _ h = refl
 
 -- a phase that is not Eap
 pub not_eap : (p : Phase) → ((a : Address) (t : Turn) → p ≡ Eap a t → ⊥) → is_in Stage.eap p ≡ false
 unfolding is_in
-not_eap Idle h = refl
-not_eap (Country f) h = refl
-not_eap (Name f) h = refl
-not_eap (Chosen a) h = refl
-not_eap (Init a) h = refl
-not_eap (Auth a) h = refl
 not_eap (Eap a t) h = absurd (h a t refl)
-not_eap (Sure a) h = refl
-not_eap (Live a) h = refl
-
--- a phase that is not Sure
-pub not_sure : (p : Phase) → ((a : Address) → p ≡ Sure a → ⊥) → is_in Stage.sure p ≡ false
-unfolding is_in
-not_sure Idle h = refl
-not_sure (Country f) h = refl
-not_sure (Name f) h = refl
-not_sure (Chosen a) h = refl
-not_sure (Init a) h = refl
-not_sure (Auth a) h = refl
-not_sure (Eap a t) h = refl
-not_sure (Sure a) h = absurd (h a refl)
-not_sure (Live a) h = refl
+not_eap _ h = refl

@@ -1,12 +1,12 @@
 -- Where a phase stands: its octets are its number, what it keeps, and how far its EAP session is, and a phase that goes on keeps what it has.
+use Rattle.std.specs.Prelude.{Some}
 use Prim.Native.Nat.{ℕ, ◌+◌, ◌≤◌}
 use mathlib.Core.List.{List, ◌++◌, append_assoc}
-use mathlib.Core.Option.{some, none-ne-some}
 use mathlib.Core.Path.{◌≡◌, refl, sym, ap, ap₂, ◌∙◌}
 use native.Mathlib.Omega.{arith}
 use lib.ListN.{length, drop, take, take-append-drop}
 use lib.Seq.{drop-drop, sets-eq}
-use Rattle.octets.specs.Digits.{be, digits, field}
+use Rattle.octets.specs.Digits.{be, digits}
 use Rattle.octets.specs.Part.{part, zeros, Wrote}
 use Rattle.octets.proofs.Parts.{both, then, wrote_length}
 use Rattle.octets.proofs.Splices.{part_behind}
@@ -16,47 +16,27 @@ use Rattle.addresses.specs.Addresses.{address_octets}
 use Rattle.addresses.proofs.Widths.{address_wide}
 use Rattle.place.specs.declared.Facts.{Facts}
 use Rattle.phase.specs.Chosen.{chosen}
-use Rattle.phase.specs.Facts.{facts_from, facts_octets}
+use Rattle.phase.specs.Facts.{facts_octets}
 use Rattle.phase.specs.Phase.{asking_octets, having_octets, phase_octets, turn_octets}
-use Rattle.phase.specs.Standing.{Continues, Stood, bare, bare_facts, ends, keeps, placed, restored, standing, stays, turned}
+use Rattle.phase.specs.Standing.{Continues, Stood, bare, ends, keeps, placed, restored, standing, stays, turned}
 use Rattle.phase.specs.declared.Phase.{Phase}
 use Rattle.phase.specs.declared.Phase.TheVariants.{Idle, Country, Name, Chosen, Init, Auth, Eap, Sure, Live}
 use Rattle.phase.specs.declared.Standing.{Standing}
 use Rattle.phase.specs.declared.Turn.{Turn}
 use Rattle.phase.specs.declared.Turn.TheVariants.{First, Owed, Answered}
 use Rattle.phase.proofs.Writes.{facts_length, three}
+use Rattle.std.proofs.lemmas.Option.{none-some}
 
 -- a bare phase stands as the whole one does, and is restored to it
 standing_bare : (p : Phase) → standing (bare p) ≡ standing p
 unfolding standing bare
 standing_bare Idle = refl
-standing_bare (Country f) = refl
-standing_bare (Name f) = refl
-standing_bare (Chosen a) = refl
-standing_bare (Init a) = refl
-standing_bare (Auth a) = refl
-standing_bare (Eap a t) = refl
-standing_bare (Sure a) = refl
-standing_bare (Live a) = refl
+standing_bare _ = refl
 
 pub restored_bare : (p : Phase) → restored p (bare p) ≡ p
 unfolding restored bare placed chosen
 restored_bare Idle = refl
-restored_bare (Country f) = refl
-restored_bare (Name f) = refl
-restored_bare (Chosen a) = refl
-restored_bare (Init a) = refl
-restored_bare (Auth a) = refl
-restored_bare (Eap a t) = refl
-restored_bare (Sure a) = refl
-restored_bare (Live a) = refl
-
--- place facts of which only the local IP version is read
-pub bare_facts_lem : (l : List ℕ) (at version : ℕ) → version ≡ field l (at + 9) 1 → bare_facts version ≡ bare_facts (facts_from l (at + 1)).version
-unfolding facts_from
-bare_facts_lem l at version read =
-    let place : at + 9 ≡ at + 1 + 8 = omega arith in
-    ap bare_facts (read ∙ ap (λ (k : ℕ). field l k 1) place)
+restored_bare _ = refl
 
 -- only the idle phase has the number 0
 none_turned : (t : Turn) → (turned t).stage ≡ 0 → ⊥
@@ -68,14 +48,8 @@ none_turned (Answered i) e = omega arith
 idle_alone : (q : Phase) → (standing q).stage ≡ 0 → q ≡ Idle
 unfolding standing
 idle_alone Idle e = refl
-idle_alone (Country f) e = absurd (omega arith)
-idle_alone (Name f) e = absurd (omega arith)
-idle_alone (Chosen a) e = absurd (omega arith)
-idle_alone (Init a) e = absurd (omega arith)
-idle_alone (Auth a) e = absurd (omega arith)
 idle_alone (Eap a t) e = absurd (none_turned t e)
-idle_alone (Sure a) e = absurd (omega arith)
-idle_alone (Live a) e = absurd (omega arith)
+idle_alone _ e = absurd (omega arith)
 
 -- the 17 octets of what a phase keeps
 unfoldable kept : Phase → List ℕ
@@ -132,34 +106,24 @@ phase_around (Sure a) = refl
 phase_around (Live a) = refl
 
 -- what a phase with an address keeps
-address_kept : (p : Phase) (a : Address) → chosen p ≡ some a → kept p ≡ address_octets a
+address_kept : (p : Phase) (a : Address) → chosen p ≡ Some a → kept p ≡ address_octets a
 unfolding kept chosen
-address_kept Idle a e = absurd (none-ne-some _ e)
-address_kept (Country f) a e = absurd (none-ne-some _ e)
-address_kept (Name f) a e = absurd (none-ne-some _ e)
-address_kept (Chosen b) a e = ap address_octets (cc)
-address_kept (Init b) a e = ap address_octets (cc)
-address_kept (Auth b) a e = ap address_octets (cc)
-address_kept (Eap b t) a e = ap address_octets (cc)
-address_kept (Sure b) a e = ap address_octets (cc)
-address_kept (Live b) a e = ap address_octets (cc)
+address_kept Idle a e = absurd (none-some _ e)
+address_kept (Country f) a e = absurd (none-some _ e)
+address_kept (Name f) a e = absurd (none-some _ e)
+address_kept _ a e = ap address_octets (cc)
 
 -- a phase with an address, restored from one, has the address of that one and stands as it does
 record Restored (r q : Phase) (a : Address) : Type 0 where
-  has : chosen r ≡ some a
+  has : chosen r ≡ Some a
   stood : standing r ≡ standing q
 
-restored_is : (p q : Phase) (a b : Address) → chosen p ≡ some a → chosen q ≡ some b → Restored (restored p q) q a
+restored_is : (p q : Phase) (a b : Address) → chosen p ≡ Some a → chosen q ≡ Some b → Restored (restored p q) q a
 unfolding restored placed chosen standing
-restored_is p Idle a b e f = absurd (none-ne-some _ f)
-restored_is p (Country g) a b e f = absurd (none-ne-some _ f)
-restored_is p (Name g) a b e f = absurd (none-ne-some _ f)
-restored_is p (Chosen c) a b e f = rw e (record { has = refl; stood = refl })
-restored_is p (Init c) a b e f = rw e (record { has = refl; stood = refl })
-restored_is p (Auth c) a b e f = rw e (record { has = refl; stood = refl })
-restored_is p (Eap c t) a b e f = rw e (record { has = refl; stood = refl })
-restored_is p (Sure c) a b e f = rw e (record { has = refl; stood = refl })
-restored_is p (Live c) a b e f = rw e (record { has = refl; stood = refl })
+restored_is p Idle a b e f = absurd (none-some _ f)
+restored_is p (Country g) a b e f = absurd (none-some _ f)
+restored_is p (Name g) a b e f = absurd (none-some _ f)
+restored_is p _ a b e f = rw e (record { has = refl; stood = refl })
 
 -- a phase that goes on without ending keeps what it has and stands as the other does
 continues : {p q : Phase} → Continues p q → ((standing q).stage ≡ 0 → ⊥) → phase_octets (restored p q) ≡ around (standing q) (kept p)

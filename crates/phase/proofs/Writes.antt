@@ -1,4 +1,5 @@
 -- What place facts and phases are written as, and the runs of writes that make them, each where the one before it ends.
+use Rattle.std.specs.Prelude.{Option, None, Some}
 use Prim.Native.Nat.{ℕ, ◌+◌}
 use mathlib.Core.List.{List, ◌++◌}
 use mathlib.Core.Path.{◌≡◌, refl, sym, ap}
@@ -7,8 +8,7 @@ use Rattle.octets.specs.Digits.{be, digits}
 use Rattle.octets.specs.Part.{zeros, Wrote}
 use Rattle.octets.proofs.Octets.{Octets, joins, be_octets, zeros_octets}
 use Rattle.octets.proofs.Parts.{both, then}
-use Rattle.network.specs.declared.MaybePlmn.{MaybePlmn}
-use Rattle.network.specs.declared.MaybePlmn.TheVariants.{Is, None}
+use Rattle.network.specs.declared.Plmn.{Plmn}
 use Rattle.address.specs.declared.Address.{Address}
 use Rattle.addresses.specs.Addresses.{address_octets}
 use Rattle.addresses.proofs.RoundTrip as Addresses
@@ -29,10 +29,10 @@ place_length Unknown = refl
 place_length Home = refl
 place_length (Abroad mcc) = refl
 
-pub registered_length : (p : MaybePlmn) → length (registered_octets p) ≡ 5
+pub registered_length : (p : Option Plmn) → length (registered_octets p) ≡ 5
 unfolding registered_octets be digits
 registered_length None = refl
-registered_length (Is p) = refl
+registered_length (Some p) = refl
 
 pub facts_length : (f : Facts) → length (facts_octets f) ≡ 9
 unfolding facts_octets be digits
@@ -73,10 +73,10 @@ octets_of_place Unknown = joins (be_octets 1 0) (be_octets 2 0)
 octets_of_place Home = joins (be_octets 1 1) (be_octets 2 0)
 octets_of_place (Abroad mcc) = joins (be_octets 1 2) (be_octets 2 mcc)
 
-octets_of_registered : (p : MaybePlmn) → Octets (registered_octets p)
+octets_of_registered : (p : Option Plmn) → Octets (registered_octets p)
 unfolding registered_octets
 octets_of_registered None = joins (joins (be_octets 1 0) (be_octets 2 0)) (be_octets 2 0)
-octets_of_registered (Is p) = joins (joins (be_octets 1 1) (be_octets 2 p.mcc)) (be_octets 2 p.mnc)
+octets_of_registered (Some p) = joins (joins (be_octets 1 1) (be_octets 2 p.mcc)) (be_octets 2 p.mnc)
 
 octets_of_turn : (t : Turn) → Octets (turn_octets t)
 unfolding turn_octets

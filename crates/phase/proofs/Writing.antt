@@ -17,7 +17,6 @@ use Rattle.addresses.specs.Addresses.{address_octets, address_from, is_address}
 use Rattle.addresses.proofs.RoundTrip.{address_octets_lem}
 use Rattle.phase.specs.Facts.{place_octets, place_from, place_written, registered_octets, registered_from, registered_written, facts_octets, facts_from, facts_written}
 use Rattle.phase.specs.Phase.{asking_octets, having_octets, phase_from, phase_octets, phase_written, turn_from, turn_octets, turn_written, having_from}
-use Rattle.phase.proofs.Bools.{above_2, is_8}
 
 module _ (l : List ℕ) (octets : all_of (below 256) l ≡ true) where
   module _ (at : ℕ) (fits : at + 3 ≤ length l) (w : place_written l at ≡ true) where
@@ -116,12 +115,12 @@ module _ (l : List ℕ) (octets : all_of (below 256) l ≡ true) where
       module _ (not-0 : N ≡ 0 → ⊥) (not-1 : N ≡ 1 → ⊥) (not-2 : N ≡ 2 → ⊥) (not-6 : N ≡ 6 → ⊥) where
         rest : leb N 8 && is_address l (at + 1) && zeros_at l (at + 18) 2 ≡ true
         unfolding phase_written
-        rest = rw (ne_eqb N 0 not-0, lt-leb N 2 (above_2 N not-0 not-1 not-2), ne_eqb N 6 not-6) at w
+        rest = rw (ne_eqb N 0 not-0, lt-leb N 2 (omega (arith, not-0, not-1, not-2)), ne_eqb N 6 not-6) at w
 
         last : (N ≡ 3 → ⊥) → (N ≡ 4 → ⊥) → (N ≡ 5 → ⊥) → (N ≡ 7 → ⊥) → N ≡ 8
         last f g h i =
             let high : N ≤ 8 = leb-true N 8 (and_left (leb N 8) (is_address l (at + 1)) (and_left (leb N 8 && is_address l (at + 1)) (zeros_at l (at + 18) 2) rest)) in
-            is_8 N (above_2 N not-0 not-1 not-2) high f g h not-6 i
+            omega (arith, not-0, not-1, not-2, f, g, h, not-6, i)
 
         by_address : Back
         unfolding phase_octets phase_from having_from phase_written

@@ -7,7 +7,7 @@ use Rattle.addresses.specs.Laws.{address_storable}
 use Rattle.phase.specs.Phase.{phase_fits, phase_from, phase_length, phase_octets, phase_written}
 use Rattle.phase.specs.Standing.{bare, restored}
 use Rattle.phase.specs.declared.Phase.{Phase}
-use Rattle.phase.specs.declared.Phase.TheVariants.{Idle, Country, Name, Chosen, Init, Auth, Eap, Sure, Live}
+use Rattle.phase.specs.declared.Phase.TheVariants.{Chosen, Init, Auth, Eap, Sure, Live}
 use Rattle.phase.specs.declared.Turn.{Turn}
 use Rattle.phase.specs.declared.Turn.TheVariants.{First, Owed, Answered}
 
@@ -19,15 +19,13 @@ turn_storable (Answered i) = ltb i 256
 
 -- a phase whose address and identifier fit their octets; place facts fit theirs by `phase_fits`
 unfoldable pub phase_storable : Phase → Bool
-phase_storable Idle = true
-phase_storable (Country f) = true
-phase_storable (Name f) = true
 phase_storable (Chosen a) = address_storable a
 phase_storable (Init a) = address_storable a
 phase_storable (Auth a) = address_storable a
 phase_storable (Eap a t) = address_storable a && turn_storable t
 phase_storable (Sure a) = address_storable a
 phase_storable (Live a) = address_storable a
+phase_storable _ = true
 
 pub record Laws : Type 0 where
   -- every phase has the same count of octets

@@ -67,21 +67,14 @@ phase_from l at =
 
 -- phase country only abroad
 unfoldable pub is_abroad : Place → Bool
-is_abroad Place.Unknown = false
-is_abroad Place.Home = false
 is_abroad (Place.Abroad mcc) = true
+is_abroad _ = false
 
 -- the facts that a phase keeps are in their ranges
 unfoldable pub phase_fits : Phase → Bool
-phase_fits Idle = true
 phase_fits (Country f) = facts_fit f && is_abroad f.place
 phase_fits (Name f) = facts_fit f
-phase_fits (Chosen a) = true
-phase_fits (Init a) = true
-phase_fits (Auth a) = true
-phase_fits (Eap a t) = true
-phase_fits (Sure a) = true
-phase_fits (Live a) = true
+phase_fits _ = true
 
 -- a number that there is, and zeros in what its phase does not use
 unfoldable pub turn_written : List ℕ → ℕ → Bool

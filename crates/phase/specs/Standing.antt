@@ -1,16 +1,14 @@
 -- What a phase says beside its place facts and its address, and how one phase goes on to another that keeps its address.
 -- Start and the country and address answers are not told this way, since they write place facts or an address anew.
-use Rattle.std.specs.Prelude.{ℕ, List, ◌≡◌}
-use Rattle.std.proofs.Math.Option.{Option, none, some}
+use Rattle.std.specs.Prelude.{ℕ, List, ◌≡◌, Option, None, Some}
 use Rattle.octets.specs.Part.{part, Wrote}
 use Rattle.address.specs.declared.Address.{Address}
 use Rattle.address.specs.declared.Address.TheVariants.{V4}
-use Rattle.network.specs.declared.MaybePlmn.TheVariants as MaybePlmn
 use Rattle.place.specs.declared.Facts.{Facts}
 use Rattle.place.specs.declared.Place.TheVariants as Place
 use Rattle.phase.specs.Chosen.{chosen}
 use Rattle.phase.specs.Phase.{phase_length, phase_octets}
-use Rattle.phase.specs.Stage.{stage_number}
+use Rattle.phase.specs.Stage.{stage_number, stage_of}
 use Rattle.phase.specs.Stage as Stage
 use Rattle.phase.specs.declared.Phase.{Phase}
 use Rattle.phase.specs.declared.Phase.TheVariants.{Idle, Country, Name, Chosen, Init, Auth, Eap, Sure, Live}
@@ -30,22 +28,15 @@ turned (Answered i) = record { stage = stage_number Stage.eap; turn = 3; identif
 
 -- where a phase stands
 unfoldable pub standing : Phase → Standing
-standing Idle = of_stage Stage.idle
-standing (Country f) = of_stage Stage.country
-standing (Name f) = of_stage Stage.name
-standing (Chosen a) = of_stage Stage.chosen
-standing (Init a) = of_stage Stage.init
-standing (Auth a) = of_stage Stage.auth
 standing (Eap a t) = turned t
-standing (Sure a) = of_stage Stage.sure
-standing (Live a) = of_stage Stage.live
+standing p = of_stage (stage_of p)
 
 -- what stands for an address, and for place facts of which only the local IP version is known
 abbrev pub nowhere : Address
 nowhere = V4 0
 
 abbrev pub bare_facts : ℕ → Facts
-bare_facts version = record { place = Place.Unknown; registered = MaybePlmn.None; version = version }
+bare_facts version = record { place = Place.Unknown; registered = None; version = version }
 
 -- a phase of whose data only the local IP version and the identifiers are known
 unfoldable pub bare : Phase → Phase
@@ -61,8 +52,8 @@ bare (Live a) = Live nowhere
 
 -- a phase with the chosen address; there is one wherever a phase goes on to one with an address
 unfoldable pub placed : (Address → Phase) → Address → Option Address → Phase
-placed f b none = f b
-placed f b (some a) = f a
+placed f b None = f b
+placed f b (Some a) = f a
 
 -- the phase q with the address that p has; a phase with place facts is gone on to only by staying, and is p itself
 unfoldable pub restored : Phase → Phase → Phase
@@ -80,7 +71,7 @@ restored p (Live b) = placed Live b (chosen p)
 pub data Continues : Phase → Phase → Type 0 where
   ends : {p : Phase} → Continues p Idle
   stays : {p : Phase} → Continues p (bare p)
-  keeps : {p q : Phase} {a b : Address} → chosen p ≡ some a → chosen q ≡ some b → Continues p q
+  keeps : {p q : Phase} {a b : Address} → chosen p ≡ Some a → chosen q ≡ Some b → Continues p q
 
 -- m is l with the phase p, which stands there, written over by the one that p goes on to and that stands so
 abbrev pub Stood : List ℕ → ℕ → Standing → List ℕ → Type 0

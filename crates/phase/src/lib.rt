@@ -2,8 +2,8 @@
 #![tactic(auto)]
 
 ghost use Rattle.std.specs.Prelude.{◌≡◌};
-ghost use Rattle.phase.specs.Awaited.{awaited_in, facts_option};
-ghost use Rattle.phase.specs.Chosen.{address_option, chosen};
+ghost use Rattle.phase.specs.Awaited.{awaited_in};
+ghost use Rattle.phase.specs.Chosen.{chosen};
 ghost use Rattle.phase.specs.Laws.{Laws};
 ghost use Rattle.phase.specs.Stage.{stage_number, stage_of};
 
@@ -35,20 +35,6 @@ pub enum Phase {
     Live(Address),
 }
 
-// An address or none.
-#[derive(Clone, Copy)]
-pub enum MaybeAddress {
-    Is(Address),
-    None,
-}
-
-// Place facts or none.
-#[derive(Clone, Copy)]
-pub enum MaybeFacts {
-    Are(Facts),
-    None,
-}
-
 // What a phase says beside its place facts and its address: its number and, of an EAP session, how far it is and the identifier.
 #[derive(Clone, Copy)]
 pub struct Standing {
@@ -76,48 +62,50 @@ pub const SURE: u64 = 7;
 
 pub const LIVE: u64 = 8;
 
-// The number of a phase.
-pub fn number(phase: Phase) -> u64
-    ensures { result ≡ stage_number (stage_of phase) }
-{
-    match phase {
-        Phase::Idle => IDLE,
-        Phase::Country(_) => COUNTRY,
-        Phase::Name(_) => NAME,
-        Phase::Chosen(_) => CHOSEN,
-        Phase::Init(_) => INIT,
-        Phase::Auth(_) => AUTH,
-        Phase::Eap(_, _) => EAP,
-        Phase::Sure(_) => SURE,
-        Phase::Live(_) => LIVE,
+impl Phase {
+    // The number of a phase.
+    pub fn number(self) -> u64
+        ensures { result ≡ stage_number (stage_of self) }
+    {
+        match self {
+            Phase::Idle => IDLE,
+            Phase::Country(_) => COUNTRY,
+            Phase::Name(_) => NAME,
+            Phase::Chosen(_) => CHOSEN,
+            Phase::Init(_) => INIT,
+            Phase::Auth(_) => AUTH,
+            Phase::Eap(_, _) => EAP,
+            Phase::Sure(_) => SURE,
+            Phase::Live(_) => LIVE,
+        }
     }
-}
 
-// The chosen address of a phase.
-pub fn chosen(phase: Phase) -> MaybeAddress
-    ensures { address_option result ≡ chosen phase }
-{
-    match phase {
-        Phase::Idle => MaybeAddress::None,
-        Phase::Country(_) => MaybeAddress::None,
-        Phase::Name(_) => MaybeAddress::None,
-        Phase::Chosen(a) => MaybeAddress::Is(a),
-        Phase::Init(a) => MaybeAddress::Is(a),
-        Phase::Auth(a) => MaybeAddress::Is(a),
-        Phase::Eap(a, _) => MaybeAddress::Is(a),
-        Phase::Sure(a) => MaybeAddress::Is(a),
-        Phase::Live(a) => MaybeAddress::Is(a),
+    // The chosen address of a phase.
+    #[tactic(auto, unfolding(crate::specs::Chosen::chosen))]
+    pub fn chosen(self) -> Option<Address>
+        ensures { result ≡ chosen self }
+    {
+        match self {
+            Phase::Idle | Phase::Country(_) | Phase::Name(_) => None,
+            Phase::Chosen(a)
+            | Phase::Init(a)
+            | Phase::Auth(a)
+            | Phase::Eap(a, _)
+            | Phase::Sure(a)
+            | Phase::Live(a) => Some(a),
+        }
     }
-}
 
-// The place facts of a line that waits for the country answer.
-pub fn awaiting(phase: Phase) -> MaybeFacts
-    ensures { facts_option result ≡ awaited_in phase }
-{
-    let Phase::Country(facts) = phase else {
-        return MaybeFacts::None;
-    };
-    MaybeFacts::Are(facts)
+    // The place facts of a line that waits for the country answer.
+    #[tactic(auto, unfolding(crate::specs::Awaited::awaited_in))]
+    pub fn awaited(self) -> Option<Facts>
+        ensures { result ≡ awaited_in self }
+    {
+        match self {
+            Phase::Country(facts) => Some(facts),
+            _ => None,
+        }
+    }
 }
 
 // Does nothing; its promise is that writing and reading undo each other.

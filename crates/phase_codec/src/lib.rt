@@ -3,7 +3,7 @@
 
 ghost use Rattle.std.specs.Prelude.{◌≡◌, ◌+◌, ◌≤◌, length};
 ghost use Rattle.octets.specs.Part.{Wrote};
-ghost use Rattle.phase.specs.Awaited.{awaited_in, facts_option};
+ghost use Rattle.phase.specs.Awaited.{awaited_in};
 ghost use Rattle.phase.specs.Branch.{is_asking, is_country, is_having, is_eap};
 ghost use Rattle.phase.specs.Phase.{asking_octets, having_from, having_octets, is_abroad, is_phase, phase_from, phase_length, phase_octets, turn_from, turn_octets, turn_written};
 
@@ -12,23 +12,21 @@ use addresses::{is_address, put_address, read_address};
 use buffer::number::{get, put};
 use buffer::slice::zeros_at;
 use facts_codec::{is_facts, put_facts, read_facts, read_place};
-use phase::{AUTH, CHOSEN, COUNTRY, EAP, IDLE, INIT, LIVE, MaybeFacts, NAME, Phase, SURE, Turn};
+use phase::{AUTH, CHOSEN, COUNTRY, EAP, IDLE, INIT, LIVE, NAME, Phase, SURE, Turn};
 use place::{Facts, Place};
 
 // How far an EAP session is, from 2 octets.
+#[tactic(auto, unfolding(phase::specs::Phase::turn_from))]
 pub fn read_turn(list: &[u8], at: usize) -> Turn
     requires { at + 2 ≤ length list.now }
     ensures { result ≡ turn_from list.now at }
 {
-    let kind = get(list, at, 1);
     let identifier = get(list, at + 1, 1);
-    if kind == 1 {
-        return Turn::First(identifier);
+    match get(list, at, 1) {
+        1 => Turn::First(identifier),
+        2 => Turn::Owed(identifier),
+        _ => Turn::Answered(identifier),
     }
-    if kind == 2 {
-        return Turn::Owed(identifier);
-    }
-    Turn::Answered(identifier)
 }
 
 // Stores in 2 octets how far an EAP session is.
@@ -36,73 +34,56 @@ fn put_turn(list: &mut [u8], at: usize, turn: Turn)
     requires { at + 2 ≤ length list.old }
     ensures { Wrote list.old at (turn_octets turn) list.new }
 {
-    match turn {
-        Turn::First(identifier) => {
-            put(list, at, 1, 1);
-            put(list, at + 1, 1, identifier);
-        }
-        Turn::Owed(identifier) => {
-            put(list, at, 1, 2);
-            put(list, at + 1, 1, identifier);
-        }
-        Turn::Answered(identifier) => {
-            put(list, at, 1, 3);
-            put(list, at + 1, 1, identifier);
-        }
-    }
+    let (kind, identifier) = match turn {
+        Turn::First(identifier) => (1, identifier),
+        Turn::Owed(identifier) => (2, identifier),
+        Turn::Answered(identifier) => (3, identifier),
+    };
+    put(list, at, 1, kind);
+    put(list, at + 1, 1, identifier);
 }
 
 // A phase that keeps an address, by its number.
+#[tactic(auto, unfolding(phase::specs::Phase::having_from))]
 fn read_having(list: &[u8], at: usize, number: u64) -> Phase
     requires { at + phase_length ≤ length list.now }
     ensures { result ≡ having_from list.now at number }
 {
     let address = read_address(list, at + 1);
-    if number == CHOSEN {
-        return Phase::Chosen(address);
+    match number {
+        CHOSEN => Phase::Chosen(address),
+        INIT => Phase::Init(address),
+        AUTH => Phase::Auth(address),
+        EAP => Phase::Eap(address, read_turn(list, at + 18)),
+        SURE => Phase::Sure(address),
+        _ => Phase::Live(address),
     }
-    if number == INIT {
-        return Phase::Init(address);
-    }
-    if number == AUTH {
-        return Phase::Auth(address);
-    }
-    if number == EAP {
-        return Phase::Eap(address, read_turn(list, at + 18));
-    }
-    if number == SURE {
-        return Phase::Sure(address);
-    }
-    Phase::Live(address)
 }
 
 // A phase with its own data, from 20 octets.
+#[tactic(auto, unfolding(phase::specs::Phase::phase_from))]
 pub fn read_phase(list: &[u8], at: usize) -> Phase
     requires { at + phase_length ≤ length list.now }
     ensures { result ≡ phase_from list.now at }
 {
-    let number = get(list, at, 1);
-    if number == IDLE {
-        return Phase::Idle;
+    match get(list, at, 1) {
+        IDLE => Phase::Idle,
+        COUNTRY => Phase::Country(read_facts(list, at + 1)),
+        NAME => Phase::Name(read_facts(list, at + 1)),
+        number => read_having(list, at, number),
     }
-    if number == COUNTRY {
-        return Phase::Country(read_facts(list, at + 1));
-    }
-    if number == NAME {
-        return Phase::Name(read_facts(list, at + 1));
-    }
-    read_having(list, at, number)
 }
 
 // The place facts of a line that waits for the country answer, from the 20 octets of its phase.
-pub fn read_awaited(list: &[u8], at: usize) -> MaybeFacts
+#[tactic(auto, unfolding(phase::specs::Awaited::awaited_in, phase::specs::Phase::phase_from, phase::specs::Phase::having_from))]
+pub fn read_awaited(list: &[u8], at: usize) -> Option<Facts>
     requires { at + phase_length ≤ length list.now }
-    ensures { facts_option result ≡ awaited_in (phase_from list.now at) }
+    ensures { result ≡ awaited_in (phase_from list.now at) }
 {
     if get(list, at, 1) != COUNTRY {
-        return MaybeFacts::None;
+        return None;
     }
-    MaybeFacts::Are(read_facts(list, at + 1))
+    Some(read_facts(list, at + 1))
 }
 
 // Stores a phase that keeps place facts.
@@ -148,92 +129,62 @@ pub fn put_phase(list: &mut [u8], at: usize, phase: Phase)
 }
 
 // Whether 2 octets say how far an EAP session is.
+#[tactic(auto, unfolding(phase::specs::Phase::turn_written))]
 fn is_turn(list: &[u8], at: usize) -> bool
     requires { at + 2 ≤ length list.now }
     ensures { result ≡ turn_written list.now at }
 {
-    let kind = get(list, at, 1);
-    if kind < 1 {
-        return false;
-    }
-    kind <= 3
-}
-
-// Whether a place is abroad.
-fn is_abroad(place: Place) -> bool
-    ensures { result ≡ is_abroad place }
-{
-    match place {
-        Place::Unknown => false,
-        Place::Home => false,
-        Place::Abroad(_) => true,
-    }
+    matches!(get(list, at, 1), 1..=3)
 }
 
 // Whether place facts and zeros stand behind the number of a phase.
+#[tactic(auto, unfolding(phase::specs::Branch::is_asking))]
 fn is_asking(list: &[u8], at: usize) -> bool
     requires { at + phase_length ≤ length list.now }
     ensures { result ≡ is_asking list.now at }
 {
-    if !is_facts(list, at + 1) {
-        return false;
-    }
-    zeros_at(list, at + 10, 10)
+    is_facts(list, at + 1) && zeros_at(list, at + 10, 10)
 }
 
 // Whether place facts abroad and zeros stand behind the number of a phase.
+#[tactic(auto, unfolding(phase::specs::Branch::is_country, phase::specs::Phase::is_abroad))]
 fn is_country(list: &[u8], at: usize) -> bool
     requires { at + phase_length ≤ length list.now }
     ensures { result ≡ is_country list.now at }
 {
-    if !is_asking(list, at) {
-        return false;
-    }
-    is_abroad(read_place(list, at + 1))
+    is_asking(list, at) && matches!(read_place(list, at + 1), Place::Abroad(_))
 }
 
 // Whether an address and zeros stand behind the number of a phase.
+#[tactic(auto, unfolding(phase::specs::Branch::is_having))]
 fn is_having(list: &[u8], at: usize) -> bool
     requires { at + phase_length ≤ length list.now }
     ensures { result ≡ is_having list.now at }
 {
-    if !is_address(list, at + 1) {
-        return false;
-    }
-    zeros_at(list, at + 18, 2)
+    is_address(list, at + 1) && zeros_at(list, at + 18, 2)
 }
 
 // Whether an address and an identifier stand behind the number of a phase.
+#[tactic(auto, unfolding(phase::specs::Branch::is_eap))]
 fn is_eap(list: &[u8], at: usize) -> bool
     requires { at + phase_length ≤ length list.now }
     ensures { result ≡ is_eap list.now at }
 {
-    if !is_address(list, at + 1) {
-        return false;
-    }
-    is_turn(list, at + 18)
+    is_address(list, at + 1) && is_turn(list, at + 18)
 }
 
 // Whether a phase with its own data stands in 20 octets.
+#[tactic(auto, unfolding(phase::specs::Phase::is_phase, phase::specs::Phase::phase_written, phase::specs::Phase::phase_fits, phase::specs::Phase::phase_from, phase::specs::Phase::having_from, phase::specs::Branch::is_asking, phase::specs::Branch::is_country, phase::specs::Branch::is_having, phase::specs::Branch::is_eap))]
 pub fn is_phase(list: &[u8], at: usize) -> bool
     requires { at + phase_length ≤ length list.now }
     ensures { result ≡ is_phase list.now at }
 {
-    let number = get(list, at, 1);
-    if number == IDLE {
-        return zeros_at(list, at + 1, 19);
+    match get(list, at, 1) {
+        IDLE => zeros_at(list, at + 1, 19),
+        COUNTRY => is_country(list, at),
+        NAME => is_asking(list, at),
+        EAP => is_eap(list, at),
+        CHOSEN..=LIVE => is_having(list, at),
+        _ => false,
     }
-    if number == COUNTRY {
-        return is_country(list, at);
-    }
-    if number == NAME {
-        return is_asking(list, at);
-    }
-    if number == EAP {
-        return is_eap(list, at);
-    }
-    if LIVE < number {
-        return false;
-    }
-    is_having(list, at)
 }

@@ -1,7 +1,7 @@
 // Where a line is.
 #![tactic(auto)]
 
-use network::MaybePlmn;
+use network::Plmn;
 
 // The place of a line.
 #[derive(Clone, Copy)]
@@ -16,6 +16,6 @@ pub enum Place {
 #[derive(Clone, Copy)]
 pub struct Facts {
     pub place: Place,
-    pub registered: MaybePlmn,
+    pub registered: Option<Plmn>,
     pub version: u64,
 }

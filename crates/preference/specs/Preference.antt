@@ -1,19 +1,12 @@
 -- What a configuration says of networks: provisioned, barred, preferred, and the pick among those that a country answer offers.
-use Rattle.std.specs.Prelude.{Bool, true, false, cond, not, ◌&&◌, ◌||◌, List, [], ◌∷◌, map, leb, eqb}
-use Rattle.std.proofs.Math.Option.{Option, none, some}
+use Rattle.std.specs.Prelude.{Bool, true, false, cond, not, ◌&&◌, ◌||◌, List, [], ◌∷◌, map, leb, eqb, Option, None, Some, is_some}
 use Rattle.octets.specs.Row.{first, only}
 use Rattle.network.specs.Plmn.{among}
 use Rattle.network.specs.declared.Plmn.{Plmn}
 use Rattle.entry.specs.declared.field.Preferred.{Preferred}
 use Rattle.config.specs.Settings.{plmn_in, Settings}
-use Rattle.config.specs.declared.Node.{Node}
 use Rattle.place.specs.declared.Place.{Place}
 use Rattle.place.specs.declared.Place.TheVariants.{Unknown, Home, Abroad}
-
-unfoldable pub has_node : Node → Bool
-has_node Node.None = false
-has_node (Node.Name at n) = true
-has_node (Node.Address a) = true
 
 unfoldable pub has_plmns : List Preferred → Bool
 has_plmns [] = false
@@ -21,7 +14,7 @@ has_plmns (x ∷ xs) = true
 
 -- provisioned means: at least one `node` or `plmn` record
 unfoldable pub provisioned : Settings → Bool
-provisioned s = has_node s.node || has_plmns s.plmns
+provisioned s = is_some s.node || has_plmns s.plmns
 
 -- a PLMN is on the forbidden list
 unfoldable pub barred : Settings → Plmn → Bool
@@ -51,16 +44,16 @@ eligible s ps place x = offered ps place (plmn_in x) && unbarred s (plmn_in x)
 
 -- priority 0 is the best, and of two equal ones the earlier record
 unfoldable pub better : Preferred → Option Preferred → Preferred
-better x none = x
-better x (some y) = cond (leb x.priority y.priority) x y
+better x None = x
+better x (Some y) = cond (leb x.priority y.priority) x y
 
 unfoldable pub best : List Preferred → Option Preferred
-best [] = none
-best (x ∷ xs) = some (better x (best xs))
+best [] = None
+best (x ∷ xs) = Some (better x (best xs))
 
 unfoldable pub network_of : Option Preferred → Option Plmn
-network_of none = none
-network_of (some x) = some (plmn_in x)
+network_of None = None
+network_of (Some x) = Some (plmn_in x)
 
 -- the network of best priority
 unfoldable pub ranked : Settings → List Plmn → Place → Option Plmn

@@ -9,8 +9,10 @@ use lib.Seq.{take-append_seam}
 use Rattle.octets.specs.Part.{part, zeros, padded, Wrote}
 use Rattle.octets.proofs.Parts.{length_zeros, padded_wrote}
 use Rattle.network.specs.Name.{Named}
+use Rattle.network.specs.declared.Plmn.{Plmn}
 use Rattle.selection.specs.declared.Choice.{Choice}
-use Rattle.selection.specs.Query.{built, Lies, TextWithin}
+use Rattle.selection.specs.declared.Choice.TheVariants.{Stop, Country, Text, Network, Address}
+use Rattle.selection.specs.Query.{asked, built, Lies, TextWithin}
 
 -- zeros with a name of r octets stored from their start
 pub named : (name : List ℕ) {n r : ℕ} {l m : List ℕ} → r ≡ length name → r ≤ n → l ≡ zeros n
@@ -36,6 +38,24 @@ module _ (l b : List ℕ) (n : ℕ) (named : Named l (length b) b n) where
 pub no_name_lem : (n : ℕ) (b : List ℕ) → b ≡ zeros n → Named [] n b 0
 unfolding padded
 no_name_lem n b e = record { whole = e ∙ ap zeros (sym (sub-zero n)); size = refl }
+
+-- no name is built but for a country and a network
+pub none_built : (c : Choice) → ((mcc : ℕ) → c ≡ Country mcc → ⊥) → ((p : Plmn) → c ≡ Network p → ⊥) → built c ≡ []
+unfolding built
+none_built (Stop k) other else_other = refl
+none_built (Country mcc) other else_other = absurd (other mcc refl)
+none_built (Text at k) other else_other = refl
+none_built (Network p) other else_other = absurd (else_other p refl)
+none_built (Address a) other else_other = refl
+
+-- the name of every choice but a part of the text is the one that is built
+pub asked_built : (text : List ℕ) (c : Choice) → ((at k : ℕ) → c ≡ Text at k → ⊥) → built c ≡ asked text c
+unfolding asked built
+asked_built text (Stop k) other = refl
+asked_built text (Country mcc) other = refl
+asked_built text (Text at k) other = absurd (other at k refl)
+asked_built text (Network p) other = refl
+asked_built text (Address a) other = refl
 
 -- a name that was built for a choice lies in its slice
 pub lies : (text name : List ℕ) (n room : ℕ) (c : Choice) → TextWithin text c → Named (built c) room name n → length name ≡ room → Lies text name n c

@@ -52,9 +52,7 @@ pub fn build(choice: Choice, name: &mut [u8]) -> usize
     match choice {
         Choice::Country(mcc) => visited_name(name, mcc),
         Choice::Network(p) => operator_name(name, p),
-        Choice::Stop(_) => nothing(name),
-        Choice::Text { at: _, length: _ } => nothing(name),
-        Choice::Address(_) => nothing(name),
+        _ => nothing(name),
     }
 }
 
@@ -73,9 +71,6 @@ pub fn asked<'a>(choice: Choice, text: &'a [u8], name: &'a [u8], n: usize) -> &'
 {
     match choice {
         Choice::Text { at, length } => part(text, at, length),
-        Choice::Country(_) => part(name, 0, n),
-        Choice::Network(_) => part(name, 0, n),
-        Choice::Stop(_) => part(name, 0, n),
-        Choice::Address(_) => part(name, 0, n),
+        _ => part(name, 0, n),
     }
 }

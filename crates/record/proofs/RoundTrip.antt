@@ -128,9 +128,9 @@ module _ (pair : ℕ) (x : Line) where
 
   children_part : length x.holds ≤ 8 → length x.children ≤ 8 → part l children_place 40 ≡ children_octets x.children
   unfolding record_octets
-  children_part few-h few-c =
-      to_part (children_octets x.children) 40 (Children.octet_count x.children few-c)
-      (behind (H ++ M ++ N ++ holds_octets x.holds) (children_octets x.children) children_place (held_length pair x.time x.phase x.holds x.children few-h) (whole l))
+  children_part few_h few_c =
+      to_part (children_octets x.children) 40 (Children.octet_count x.children few_c)
+      (behind (H ++ M ++ N ++ holds_octets x.holds) (children_octets x.children) children_place (held_length pair x.time x.phase x.holds x.children few_h) (whole l))
 
   -- a sound line whose parts fit their octets
   module _ (sound : line_sound x ≡ true) (fits : line_storable x ≡ true) where
@@ -225,12 +225,12 @@ module _ (m : List ℕ) (octets : all_of (below 256) m ≡ true) (size : length 
   pub storable : line_storable (line_from m) ≡ true
   unfolding line_storable line_from
   storable =
-      let few-h : field m 25 1 ≤ 8 = hold_octet m sound in
-      let few-c : field m 26 1 ≤ 8 = child_octet m sound in
+      let few_h : field m 25 1 ≤ 8 = hold_octet m sound in
+      let few_c : field m 26 1 ≤ 8 = child_octet m sound in
       rw (lt-ltb (field m 1 4) (256 ^ 4) (field_below m octets 1 4 (omega arith)), Reading.storable m 5 octets (omega arith), Holds.storable m 27 (field m 25 1) octets (omega arith), Children.storable m children_place (field m 26 1) octets (omega arith))
 
 pub octets : (pair : ℕ) (x : Line) → all_of (below 256) (record_octets pair x) ≡ true
 unfolding record_octets
 octets pair x =
-    let head-is : Octets (head pair x.time x.phase) = joins (joins (be_octets 1 pair) (be_octets 4 x.time)) (Writes.octets x.phase) in
-    (joins (joins (joins (joins head-is (be_octets 1 (length x.holds))) (be_octets 1 (length x.children))) (Holds.octets x.holds)) (Children.octets x.children)).octets
+    let head_is : Octets (head pair x.time x.phase) = joins (joins (be_octets 1 pair) (be_octets 4 x.time)) (Writes.octets x.phase) in
+    (joins (joins (joins (joins head_is (be_octets 1 (length x.holds))) (be_octets 1 (length x.children))) (Holds.octets x.holds)) (Children.octets x.children)).octets

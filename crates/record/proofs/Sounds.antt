@@ -167,17 +167,17 @@ module _ (l : List ℕ) where
         let from : leb 1 (field l 0 1) ≡ true = rw (← own) (le-leb 1 k (ltb-false k 1 (or_left (ltb k 1) (ltb 64 k) paired))) in
         let to : leb (field l 0 1) 64 ≡ true = rw (← own) (le-leb k 64 (ltb-false 64 k (or_right (ltb k 1) (ltb 64 k) paired))) in
         let ends : all_of (ends_after (field l 1 4)) hs ≡ true = rw (← timed) (and_right (holds_written l 27 m) (all_of (ends_after time) hs) good) in
-        let phase-is : phase_written l 5 ≡ true = and_left (phase_written l 5) (phase_fits p) stands in
-        let phase-in : phase_fits p ≡ true = and_right (phase_written l 5) (phase_fits p) stands in
+        let phase_is : phase_written l 5 ≡ true = and_left (phase_written l 5) (phase_fits p) stands in
+        let phase_in : phase_fits p ≡ true = and_right (phase_written l 5) (phase_fits p) stands in
         let allowed = sym (counts_are stage staged stands) ∙ counts in
         let busy : is_in Stage.idle p || leb (length hs) 7 ≡ true = and_left (is_in Stage.idle p || leb (length hs) 7) (is_in Stage.live p || leb (length cs) 0) allowed in
         let live : is_in Stage.live p || leb (length cs) 0 ≡ true = and_right (is_in Stage.idle p || leb (length hs) 7) (is_in Stage.live p || leb (length cs) 0) allowed in
         let tunnelled : children_written l children_place n ≡ true = search (and_left, and_right) in
         let in_range_lem : all_of child_fits cs ≡ true = search (and_left, and_right) in
         let once : spis_differ cs ≡ true = search (and_left, and_right) in
-        let eight-holds : leb (length hs) 8 ≡ true = ap (λ (i : ℕ). leb i 8) counted_holds ∙ le-leb m 8 (few_holds written) in
-        let eight-children : leb (length cs) 8 ≡ true = ap (λ (i : ℕ). leb i 8) counted_children ∙ le-leb n 8 (few_children tunnelled) in
-        sym (rw (from, to, phase-is, written, tunnelled, phase-in, in_range_lem, eight-children, live, once, eight-holds, busy, ends) (and_last (different (held_in l m) && chosen_free (chosen p) (held_in l m))))
+        let eight_holds : leb (length hs) 8 ≡ true = ap (λ (i : ℕ). leb i 8) counted_holds ∙ le-leb m 8 (few_holds written) in
+        let eight_children : leb (length cs) 8 ≡ true = ap (λ (i : ℕ). leb i 8) counted_children ∙ le-leb n 8 (few_children tunnelled) in
+        sym (rw (from, to, phase_is, written, tunnelled, phase_in, in_range_lem, eight_children, live, once, eight_holds, busy, ends) (and_last (different (held_in l m) && chosen_free (chosen p) (held_in l m))))
 
     -- the addresses can be compared, and decide
     pub all_passed : ChildrenAre l n ≡ true → (i : ℕ) → i ≡ m → Comparable l i × (apart l i ≡ is_record l)

@@ -87,14 +87,14 @@ module _ (pair : ℕ) (x : Line) where
       let size : length vs ≡ 24 = both (be 4 t) (phase_octets p) 4 20 refl (phase_length_lem p) in
       let first = be 1 (length x.holds) in
       let second = be 1 (length x.children) in
-      let first-end = first_count pair x.time x.phase x.holds in
-      let second-end = counted_length pair x.time x.phase x.holds x.children in
-      let third-end = held_length pair x.time x.phase x.holds x.children few in
-      front_sets (h ++ first ++ second ++ holds_octets x.holds) (children_octets x.children) 1 vs (omega (arith, size, third-end))
+      let first_ends = first_count pair x.time x.phase x.holds in
+      let second_ends = counted_length pair x.time x.phase x.holds x.children in
+      let third_ends = held_length pair x.time x.phase x.holds x.children few in
+      front_sets (h ++ first ++ second ++ holds_octets x.holds) (children_octets x.children) 1 vs (omega (arith, size, third_ends))
       ∙ ap (λ (l : List ℕ). l ++ children_octets x.children)
-      (front_sets (h ++ first ++ second) (holds_octets x.holds) 1 vs (omega (arith, size, second-end))
+      (front_sets (h ++ first ++ second) (holds_octets x.holds) 1 vs (omega (arith, size, second_ends))
       ∙ ap (λ (l : List ℕ). l ++ holds_octets x.holds)
-      (front_sets (h ++ first) second 1 vs (omega (arith, size, first-end))
+      (front_sets (h ++ first) second 1 vs (omega (arith, size, first_ends))
       ∙ ap (λ (l : List ℕ). l ++ second)
       (front_sets h first 1 vs (omega (arith, size, head_length pair x.time x.phase))
       ∙ ap (λ (l : List ℕ). l ++ first) (sets_append h 1 (be 4 t) (phase_octets p)
@@ -106,50 +106,50 @@ module _ (pair : ℕ) (x : Line) where
   pub holds_changed : (hs : List Hold) → length x.holds ≤ 8 → length hs ≤ 8 → {l₁ l₂ l₃ : List ℕ} → Wrote (record_octets pair x) hold_count_place (be 1 (length hs)) l₁
       → Wrote l₁ holds_place (zeros holds_room) l₂ → Wrote l₂ holds_place (joined hold_octets hs) l₃ → l₃ ≡ record_octets pair (with_holds x hs)
   unfolding record_octets with_holds be digits holds_octets
-  holds_changed hs few-before few {l₁} {l₂} {l₃} w₁ w₂ w₃ =
+  holds_changed hs few_before few {l₁} {l₂} {l₃} w₁ w₂ w₃ =
       let js = joined hold_octets hs in
       let size : length js ≡ 22 * length hs = length_joined hold_octets 22 hold_wide hs in
       let first = be 1 (length x.holds) in
       let second = be 1 (length x.children) in
       let tail = children_octets x.children in
       let start = h ++ be 1 (length hs) ++ second in
-      let start-end : length start ≡ 27 = both (h ++ be 1 (length hs)) second 26 1 (both h (be 1 (length hs)) 25 1 (head_length pair x.time x.phase) refl) refl in
-      let cleared : length (start ++ zeros holds_room) ≡ children_place = both start (zeros holds_room) 27 holds_room start-end (length_zeros holds_room) in
+      let start_ends : length start ≡ 27 = both (h ++ be 1 (length hs)) second 26 1 (both h (be 1 (length hs)) 25 1 (head_length pair x.time x.phase) refl) refl in
+      let cleared : length (start ++ zeros holds_room) ≡ children_place = both start (zeros holds_room) 27 holds_room start_ends (length_zeros holds_room) in
       let held = padded holds_room (joined hold_octets x.holds) in
-      let held-end : length (start ++ held) ≡ children_place = both start held 27 holds_room start-end (Holds.octet_count x.holds few-before) in
+      let held_ends : length (start ++ held) ≡ children_place = both start held 27 holds_room start_ends (Holds.octet_count x.holds few_before) in
       let at₁ : l₁ ≡ start ++ held ++ tail =
-      w₁.wrote ∙ front_sets (h ++ first ++ second ++ held) tail 25 (be 1 (length hs)) (omega (arith, held_length pair x.time x.phase x.holds x.children few-before))
+      w₁.wrote ∙ front_sets (h ++ first ++ second ++ held) tail 25 (be 1 (length hs)) (omega (arith, held_length pair x.time x.phase x.holds x.children few_before))
       ∙ ap (λ (l : List ℕ). l ++ tail) (front_sets (h ++ first ++ second) held 25 (be 1 (length hs)) (omega (arith, counted_length pair x.time x.phase x.holds x.children))
       ∙ ap (λ (l : List ℕ). l ++ held) (front_sets (h ++ first) second 25 (be 1 (length hs)) (omega (arith, first_count pair x.time x.phase x.holds))
       ∙ ap (λ (l : List ℕ). l ++ second) (end_sets h first 25 (be 1 (length hs)) (head_length pair x.time x.phase) refl))) in
       let at₂ : l₂ ≡ start ++ zeros holds_room ++ tail =
       w₂.wrote ∙ ap (λ (l : List ℕ). sets l 27 (zeros holds_room)) at₁
-      ∙ front_sets (start ++ held) tail 27 (zeros holds_room) (omega (arith, held-end, length_zeros holds_room))
-      ∙ ap (λ (l : List ℕ). l ++ tail) (end_sets start held 27 (zeros holds_room) start-end (Holds.octet_count x.holds few-before ∙ sym (length_zeros holds_room))) in
+      ∙ front_sets (start ++ held) tail 27 (zeros holds_room) (omega (arith, held_ends, length_zeros holds_room))
+      ∙ ap (λ (l : List ℕ). l ++ tail) (end_sets start held 27 (zeros holds_room) start_ends (Holds.octet_count x.holds few_before ∙ sym (length_zeros holds_room))) in
       w₃.wrote ∙ ap (λ (l : List ℕ). sets l 27 js) at₂ ∙ front_sets (start ++ zeros holds_room) tail 27 js (omega (arith, cleared, size))
-      ∙ ap (λ (l : List ℕ). l ++ tail) (padded_end start holds_room 27 js start-end (omega (arith, size)))
+      ∙ ap (λ (l : List ℕ). l ++ tail) (padded_end start holds_room 27 js start_ends (omega (arith, size)))
 
   -- other children, with their count
   pub children_changed : (cs : List Child) → length x.holds ≤ 8 → length x.children ≤ 8 → length cs ≤ 8 → {l₁ l₂ l₃ : List ℕ}
       → Wrote (record_octets pair x) child_count_place (be 1 (length cs)) l₁ → Wrote l₁ children_place (zeros children_room) l₂ → Wrote l₂ children_place (joined child_octets cs) l₃
       → l₃ ≡ record_octets pair (with_children x cs)
   unfolding record_octets with_children be digits children_octets
-  children_changed cs few_holds few-before few {l₁} {l₂} {l₃} w₁ w₂ w₃ =
+  children_changed cs few_holds few_before few {l₁} {l₂} {l₃} w₁ w₂ w₃ =
       let js = joined child_octets cs in
       let size : length js ≡ 5 * length cs = length_joined child_octets 5 child_wide cs in
       let second = be 1 (length x.children) in
       let held = holds_octets x.holds in
       let tail = padded children_room (joined child_octets x.children) in
       let first = h ++ be 1 (length x.holds) in
-      let first-end = first_count pair x.time x.phase x.holds in
+      let first_ends = first_count pair x.time x.phase x.holds in
       let start = first ++ be 1 (length cs) ++ held in
-      let start-end : length start ≡ children_place =
-      both (first ++ be 1 (length cs)) held 27 holds_room (both first (be 1 (length cs)) 26 1 first-end refl) (Holds.octet_count x.holds few_holds) in
+      let start_ends : length start ≡ children_place =
+      both (first ++ be 1 (length cs)) held 27 holds_room (both first (be 1 (length cs)) 26 1 first_ends refl) (Holds.octet_count x.holds few_holds) in
       let at₁ : l₁ ≡ start ++ tail =
       w₁.wrote ∙ front_sets (first ++ second ++ held) tail 26 (be 1 (length cs)) (omega (arith, held_length pair x.time x.phase x.holds x.children few_holds))
       ∙ ap (λ (l : List ℕ). l ++ tail) (front_sets (first ++ second) held 26 (be 1 (length cs)) (omega (arith, counted_length pair x.time x.phase x.holds x.children))
-      ∙ ap (λ (l : List ℕ). l ++ held) (end_sets first second 26 (be 1 (length cs)) first-end refl)) in
+      ∙ ap (λ (l : List ℕ). l ++ held) (end_sets first second 26 (be 1 (length cs)) first_ends refl)) in
       let at₂ : l₂ ≡ start ++ zeros children_room =
       w₂.wrote ∙ ap (λ (l : List ℕ). sets l children_place (zeros children_room)) at₁
-      ∙ end_sets start tail children_place (zeros children_room) start-end (Children.octet_count x.children few-before ∙ sym (length_zeros children_room)) in
-      w₃.wrote ∙ ap (λ (l : List ℕ). sets l children_place js) at₂ ∙ padded_end start children_room children_place js start-end (omega (arith, size))
+      ∙ end_sets start tail children_place (zeros children_room) start_ends (Children.octet_count x.children few_before ∙ sym (length_zeros children_room)) in
+      w₃.wrote ∙ ap (λ (l : List ℕ). sets l children_place js) at₂ ∙ padded_end start children_room children_place js start_ends (omega (arith, size))

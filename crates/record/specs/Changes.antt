@@ -1,5 +1,5 @@
 -- Another line made of a line, and what becomes of the record in which it lies.
-use Rattle.std.specs.Prelude.{ℕ, ◌≤◌, List, [], ◌∷◌, ◌++◌, ◌≡◌, length, take}
+use Rattle.std.specs.Prelude.{ℕ, ◌≤◌, List, [], ◌∷◌, ◌++◌, ◌≡◌, length, Option, None, Some}
 use Rattle.octets.specs.Digits.{field}
 use Rattle.octets.specs.Row.{only}
 use Rattle.address.specs.Address.{most_holds}
@@ -41,11 +41,21 @@ with_children x cs = record { time = x.time; phase = x.phase; holds = x.holds; c
 unfoldable pub in_force : ℕ → Line → Line
 in_force time x = with_holds x (only (ends_after time) x.holds)
 
--- the line that a call finds becomes idle, and an address is held behind the others unless the count is 0
-unfoldable pub held_for : ℕ → Address → End → ℕ → Line → Line
-held_for time a end count x =
+-- a hold of an address until an end, where there is one
+abbrev pub hold_until : Address → Option End → List Hold
+hold_until a None = []
+hold_until a (Some e) = record { address = a; end = e } ∷ []
+
+-- the end of the first of the holds, where there is one
+abbrev pub first_end : List Hold → Option End
+first_end [] = None
+first_end (h ∷ hs) = Some h.end
+
+-- the line that a call finds becomes idle, and an address is held behind the others where there is an end
+unfoldable pub held_for : ℕ → Address → Option End → Line → Line
+held_for time a end x =
     let found = current time x in
-    with_holds (in_phase found Idle) (found.holds ++ take count (record { address = a; end = end } ∷ []))
+    with_holds (in_phase found Idle) (found.holds ++ hold_until a end)
 
 -- a line of which only the phase and the children are known
 unfoldable pub unheld : Phase → List Child → Line

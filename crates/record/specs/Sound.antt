@@ -1,6 +1,5 @@
 -- When a record is sound (document 01, 'The table and who sits in it'), one condition after another.
-use Rattle.std.specs.Prelude.{ℕ, suc, ◌-◌, ◌*◌, Bool, true, not, ◌&&◌, ◌||◌, List, leb, length}
-use Rattle.std.proofs.Math.Option.{Option, none, some}
+use Rattle.std.specs.Prelude.{ℕ, suc, ◌-◌, ◌*◌, Bool, true, not, ◌&&◌, ◌||◌, List, leb, length, Option, None, Some}
 use Rattle.octets.specs.Digits.{field}
 use Rattle.octets.specs.Search.{all_of}
 use Rattle.address.specs.Address.{held_addresses, most_holds, stands}
@@ -27,8 +26,8 @@ children_sound p cs = leb (length cs) most_children && (is_in Stage.live p || le
 
 -- none of the holds is the chosen one
 unfoldable pub chosen_free : Option Address → List Address → Bool
-chosen_free none held = true
-chosen_free (some a) held = not (stands a held)
+chosen_free None held = true
+chosen_free (Some a) held = not (stands a held)
 
 -- a line that is not idle has room for one hold more
 abbrev pub most_busy_holds : ℕ

@@ -1,68 +1,64 @@
 // A record read where it lies: as much of its line as a call looks at.
 #![tactic(auto)]
 
-ghost use Rattle.std.specs.Prelude.{◌≡◌, [], ◌*◌, ◌≤◌, length, take};
+ghost use Rattle.std.specs.Prelude.{◌≡◌, [], ◌*◌, ◌≤◌, length};
 ghost use Rattle.octets.specs.Digits.{field};
 ghost use Rattle.address.specs.Address.{held_addresses, most_holds, stands};
 ghost use Rattle.addresses.specs.Addresses.{address_length};
 ghost use Rattle.children.specs.Children.{has_spi, most_children};
+ghost use Rattle.children.specs.Listed.{children_of};
 ghost use Rattle.lists.specs.Held.{HeldAre};
 ghost use Rattle.lists.specs.Lists.{most_entries};
 ghost use Rattle.phase.specs.Standing.{bare};
 ghost use Rattle.record.specs.Changes.{in_force, unheld};
-ghost use Rattle.record.specs.Line.{line_of, InArrays};
+ghost use Rattle.record.specs.Line.{line_of};
 ghost use Rattle.record.specs.Octets.{child_count_place, hold_count_place, line_from, record_length};
 
-use address::{Address, End, HOLDS, Hold};
+use address::{Address, End, Hold};
 use addresses::ADDRESS;
+use bounded::Bounded;
 use buffer::number::get;
 use child_codec::{has_spi_at, read_children};
-use children::{CHILDREN, Child};
+use children::{Child, Children};
 use hold_codec::{count_in_force, is_held_at};
 use lists::{ENTRIES, address_at};
 use phase::Phase;
 use record::{CHILD_COUNT_AT, CHILDREN_AT, HOLD_COUNT_AT, HOLDS_AT, PHASE_AT, Record};
 use standing::read_bare;
 
-// A line of which only the phase is known, and the children: the first n of a list.
-fn unheld(phase: Phase, children: [Child; CHILDREN], n: usize) -> Record
-    requires { n ≤ most_children }
-    ensures result_value { line_of result ≡ unheld phase (take n children) }
-    ensures in_arrays { InArrays result }
+// A line of which only the phase and the children are known.
+fn unheld(phase: Phase, children: Children) -> Record
+    ensures { line_of result ≡ unheld phase (children_of children) }
 {
-    let hold = Hold {
+    let nothing = Hold {
         address: Address::V4(0),
         end: End::Never,
     };
     Record {
         time: 0,
         phase,
-        holds: [hold; HOLDS],
-        hold_count: 0,
+        holds: Bounded::empty(nothing),
         children,
-        child_count: n,
     }
 }
 
 // The line in a record's octets, of which only the bare phase is known.
 pub fn read_unlisted(b: &[u8]) -> Record
     requires { record_length ≤ length b.now }
-    ensures result_value { line_of result ≡ unheld (bare (line_from b.now).phase) [] }
-    ensures in_arrays { InArrays result }
+    ensures { line_of result ≡ unheld (bare (line_from b.now).phase) [] }
 {
-    let none = [Child { spi: 0, session: 0 }; CHILDREN];
-    unheld(read_bare(b, PHASE_AT), none, 0)
+    let none = Bounded::empty(Child { spi: 0, session: 0 });
+    unheld(read_bare(b, PHASE_AT), none)
 }
 
 // The line in a record's octets, of which only the bare phase and the children are known.
 pub fn read_unheld(b: &[u8]) -> Record
     requires { (record_length ≤ length b.now) × (field b.now child_count_place 1 ≤ most_children) }
-    ensures result_value { line_of result ≡ unheld (bare (line_from b.now).phase) (line_from b.now).children }
-    ensures in_arrays { InArrays result }
+    ensures { line_of result ≡ unheld (bare (line_from b.now).phase) (line_from b.now).children }
 {
     let n = get(b, CHILD_COUNT_AT, 1) as usize;
     let children = read_children(b, CHILDREN_AT, n);
-    unheld(read_bare(b, PHASE_AT), children, n)
+    unheld(read_bare(b, PHASE_AT), children)
 }
 
 // How many children the line in a record has.
@@ -108,10 +104,8 @@ pub fn held_in(b: &[u8], time: u64, list: &[u8]) -> [bool; ENTRIES]
     if n == 0 {
         return held;
     }
-    let mut i = 0;
-    while (i < ENTRIES) & (ADDRESS * i + ADDRESS <= list.len()) {
+    for i in 0..ENTRIES.min(list.len() / ADDRESS) {
         held[i] = is_held_at(b, HOLDS_AT, n, time, address_at(list, i));
-        i += 1;
     }
     held
 }

@@ -1,8 +1,7 @@
 // A record changed where it lies: opened, or its line moved on, with what a call changes of its lists.
 #![tactic(auto)]
 
-ghost use Rattle.std.specs.Prelude.{true, ◌≡◌, [], ◌∷◌, ◌++◌, ◌≤◌, ◌<◌, length, take};
-ghost use Rattle.std.proofs.Math.Option.{some};
+ghost use Rattle.std.specs.Prelude.{true, ◌≡◌, [], ◌∷◌, ◌++◌, ◌≤◌, ◌<◌, length, Some};
 ghost use Rattle.octets.specs.Digits.{be, field};
 ghost use Rattle.octets.specs.Part.{Wrote};
 ghost use Rattle.address.specs.Address.{most_holds};
@@ -11,11 +10,11 @@ ghost use Rattle.children.specs.Children.{most_children};
 ghost use Rattle.phase.specs.Chosen.{chosen};
 ghost use Rattle.phase.specs.Phase.{phase_octets};
 ghost use Rattle.phase.specs.declared.Phase.TheVariants.{Idle};
-ghost use Rattle.record.specs.Changes.{Changes, Goes, current, held_for, in_force, in_phase, unheld, with_children, with_holds};
+ghost use Rattle.record.specs.Changes.{Changes, Goes, current, held_for, hold_until, in_force, in_phase, unheld, with_children, with_holds};
 ghost use Rattle.record.specs.Octets.{child_count_place, hold_count_place, line_from, record_length, record_octets, time_place};
 ghost use Rattle.record.specs.Sound.{is_record};
 
-use address::{End, HOLDS, Hold};
+use address::{Address, End, HOLDS, Hold};
 use addresses::read_address;
 use buffer::number::{get, put};
 use buffer::slice::zero;
@@ -46,24 +45,24 @@ fn put_head(b: &mut [u8], time: u64, phase: Phase)
     put_phase(b, PHASE_AT, phase);
 }
 
-// Stores the first n of a list as the holds in a record.
-fn put_held(b: &mut [u8], list: [Hold; HOLDS], n: usize)
-    requires { (length b.old ≡ record_length) × (n ≤ most_holds) }
-    ensures { Changes b.old b.new (λ x. with_holds x (take n list)) }
+// Stores the holds in a record.
+fn put_held(b: &mut [u8], holds: &[Hold])
+    requires { (length b.old ≡ record_length) × (length holds.now ≤ most_holds) }
+    ensures { Changes b.old b.new (λ x. with_holds x holds.now) }
 {
-    put(b, HOLD_COUNT_AT, 1, n as u64);
+    put(b, HOLD_COUNT_AT, 1, holds.len() as u64);
     zero(&mut b[HOLDS_AT..CHILDREN_AT]);
-    put_holds(b, HOLDS_AT, list, n);
+    put_holds(b, HOLDS_AT, holds);
 }
 
-// Stores the first n of a list as the children in a record.
-fn put_tunnels(b: &mut [u8], list: [Child; CHILDREN], n: usize)
-    requires { (length b.old ≡ record_length) × (n ≤ most_children) }
-    ensures { Changes b.old b.new (λ x. with_children x (take n list)) }
+// Stores the children in a record.
+fn put_tunnels(b: &mut [u8], children: &[Child])
+    requires { (length b.old ≡ record_length) × (length children.now ≤ most_children) }
+    ensures { Changes b.old b.new (λ x. with_children x children.now) }
 {
-    put(b, CHILD_COUNT_AT, 1, n as u64);
+    put(b, CHILD_COUNT_AT, 1, children.len() as u64);
     zero(&mut b[CHILDREN_AT..RECORD]);
-    put_children(b, CHILDREN_AT, list, n);
+    put_children(b, CHILDREN_AT, children);
 }
 
 // Drops the holds of the line in a sound record that have ended at a time.
@@ -75,9 +74,9 @@ fn drop_ended(b: &mut [u8], time: u64)
     if all_in_force(b, HOLDS_AT, n, time) {
         return;
     }
-    let standing = in_force(read_holds(b, HOLDS_AT, n), n, time);
-    let list = standing.list;
-    put_held(b, list, standing.count);
+    let held = read_holds(b, HOLDS_AT, n);
+    let standing = in_force(held.as_slice(), time);
+    put_held(b, standing.as_slice());
 }
 
 // Stores the time and the phase of the line in a sound record, and drops its holds that have ended.
@@ -99,13 +98,13 @@ pub fn keep_standing(b: &mut [u8], time: u64, s: Standing)
     put_standing(b, PHASE_AT, s);
 }
 
-// Stores what `keep_standing` does and, as the children, the first n of a list.
-pub fn keep_tunnels(b: &mut [u8], time: u64, s: Standing, list: [Child; CHILDREN], n: usize)
-    requires { (length b.old ≡ record_length) × (is_record b.old ≡ true) × (n ≤ most_children) }
-    ensures { Goes b.old time s b.new (λ x. with_children x (take n list)) }
+// Stores what `keep_standing` does, and the children.
+pub fn keep_tunnels(b: &mut [u8], time: u64, s: Standing, children: &[Child])
+    requires { (length b.old ≡ record_length) × (is_record b.old ≡ true) × (length children.now ≤ most_children) }
+    ensures { Goes b.old time s b.new (λ x. with_children x children.now) }
 {
     keep_standing(b, time, s);
-    put_tunnels(b, list, n);
+    put_tunnels(b, children);
 }
 
 // Adds a child behind the others in a record that has room for it.
@@ -131,30 +130,30 @@ pub fn keep_child(b: &mut [u8], time: u64, s: Standing, child: Child)
     add_child(b, child);
 }
 
-// Adds a hold behind the others in a record that has room for it, or none, by its count.
-fn add_hold(b: &mut [u8], hold: Hold, count: usize)
-    requires { (length b.old ≡ record_length) × (count ≤ 1) }
-    ensures { field b.old hold_count_place 1 < most_holds → Changes b.old b.new (λ x. with_holds x (x.holds ++ take count (hold ∷ []))) }
+// Adds a hold of an address behind the others in a record that has room for it, where there is an end.
+fn add_hold(b: &mut [u8], address: Address, end: Option<End>)
+    requires { length b.old ≡ record_length }
+    ensures { field b.old hold_count_place 1 < most_holds → Changes b.old b.new (λ x. with_holds x (x.holds ++ hold_until address end)) }
 {
-    if count == 0 {
+    let Some(end) = end else {
         return;
-    }
+    };
     let n = get(b, HOLD_COUNT_AT, 1) as usize;
     // The callers have room for one more, so nothing is left out here.
     if HOLDS <= n {
         return;
     }
-    put_hold(b, HOLDS_AT + HOLD * n, hold);
+    put_hold(b, HOLDS_AT + HOLD * n, Hold { address, end });
     put(b, HOLD_COUNT_AT, 1, n as u64 + 1);
 }
 
-// Stores the time of the line in a sound record that has a chosen address; the line becomes idle, and the address is held behind the holds in force where the count is 1.
-pub fn keep_hold(b: &mut [u8], time: u64, end: End, count: usize)
-    requires { (length b.old ≡ record_length) × (is_record b.old ≡ true) × (count ≤ 1) }
-    ensures { (a : Address) → chosen (line_from b.old).phase ≡ some a → b.new ≡ record_octets (field b.old 0 1) (held_for time a end count (line_from b.old)) }
+// Stores the time of the line in a sound record that has a chosen address; the line becomes idle, and the address is held behind the holds in force where there is an end.
+pub fn keep_hold(b: &mut [u8], time: u64, end: Option<End>)
+    requires { (length b.old ≡ record_length) × (is_record b.old ≡ true) }
+    ensures { (a : Address) → chosen (line_from b.old).phase ≡ Some a → b.new ≡ record_octets (field b.old 0 1) (held_for time a end (line_from b.old)) }
 {
     let address = read_address(b, PHASE_AT + 1);
     drop_ended(b, time);
-    add_hold(b, Hold { address, end }, count);
+    add_hold(b, address, end);
     put_head(b, time, Phase::Idle);
 }

@@ -1,34 +1,33 @@
 // The records of a table, where they lie: the one of a pair found, and a record read, opened, changed or erased.
 #![tactic(auto)]
 
-ghost use Rattle.std.specs.Prelude.{[], ◌∷◌, ◌++◌, ◌≡◌, ◌+◌, ◌*◌, ◌≤◌, ◌<◌, length, take};
-ghost use Rattle.std.proofs.Math.Option.{some};
+ghost use Rattle.std.specs.Prelude.{[], ◌∷◌, ◌++◌, ◌≡◌, ◌+◌, ◌*◌, ◌≤◌, ◌<◌, length, MatchOption, Some};
 ghost use Rattle.octets.specs.Digits.{field};
 ghost use Rattle.octets.specs.Part.{zeros, Wrote};
-ghost use Rattle.octets.specs.Search.{least};
 ghost use Rattle.address.specs.Address.{held_addresses, stands};
 ghost use Rattle.address.specs.declared.Address.{Address};
 ghost use Rattle.addresses.specs.Addresses.{address_length};
 ghost use Rattle.children.specs.Children.{has_spi, most_children};
 ghost use Rattle.lists.specs.Held.{HeldAre};
 ghost use Rattle.lists.specs.Lists.{most_entries};
-ghost use Rattle.phase.specs.Awaited.{awaited_in, facts_option};
+ghost use Rattle.phase.specs.Awaited.{awaited_in};
 ghost use Rattle.phase.specs.Chosen.{chosen};
 ghost use Rattle.phase.specs.Standing.{bare};
 ghost use Rattle.phase.specs.declared.Phase.TheVariants.{Idle};
 ghost use Rattle.record.specs.Changes.{current, held_for, in_force, in_phase, unheld, with_children};
-ghost use Rattle.record.specs.Line.{line_of, InArrays};
+ghost use Rattle.record.specs.Line.{line_of};
 ghost use Rattle.record.specs.Octets.{line_from, record_length, record_octets};
 ghost use Rattle.records.specs.Stores.{GoesAt};
-ghost use Rattle.table.specs.Table.{has_pair, pair_at, record_count, record_of, slot, table_length, UsedAt};
+ghost use Rattle.table.specs.Table.{pair_at, record_count, record_of, slot, table_length, UsedAt};
 
 use address::{Address, End};
 use buffer::number::get;
 use buffer::slice::{part, zero};
-use children::{CHILDREN, Child};
+use children::Child;
 use lists::ENTRIES;
-use phase::{MaybeFacts, Phase, Standing};
+use phase::{Phase, Standing};
 use phase_codec::{read_awaited, read_phase};
+use place::Facts;
 use record::{PHASE_AT, RECORD, Record, TIME_AT};
 use record_reader::{
     child_count_in, has_spi_in, held_in, in_force_in, is_held_in, read_unheld, read_unlisted,
@@ -52,34 +51,18 @@ pub fn time_at(table: &[u8], i: usize) -> u64
     get(table, RECORD * i + TIME_AT, 4)
 }
 
-// The first of n records that has a pair, or n where none has.
-fn find(table: &[u8], n: usize, pair: u64) -> usize
-    requires { record_length * n ≤ length table.now }
-    ensures { (result ≡ least n (has_pair table.now pair)) × (result ≤ n) }
-{
-    let mut i = 0;
-    while i < n {
-        if pair_at(table, i) == pair {
-            return i;
-        }
-        i += 1;
-    }
-    i
-}
-
-// The record of a pair, or one past the last where the pair is not open; of the pair 0, the first free one.
-pub fn record_of(table: &[u8], pair: u64) -> usize
+// The record of a pair, where it is open; of the pair 0, the first free one.
+pub fn record_of(table: &[u8], pair: u64) -> Option<usize>
     requires { table_length ≤ length table.now }
-    ensures { (result ≡ record_of table.now pair) × (result ≤ record_count) }
+    ensures { MatchOption result (record_count ≤ record_of table.now pair) (λ i. (i ≡ record_of table.now pair) × (i < record_count)) }
 {
-    find(table, RECORDS, pair)
+    (0..RECORDS).find(|&i| pair_at(table, i) == pair)
 }
 
 // The line of a used record, of which only the bare phase is known.
 pub fn unlisted_at(table: &[u8], i: usize) -> Record
     requires { UsedAt table.now i }
-    ensures result_value { line_of result ≡ unheld (bare (line_from (slot table.now i)).phase) [] }
-    ensures in_arrays { InArrays result }
+    ensures { line_of result ≡ unheld (bare (line_from (slot table.now i)).phase) [] }
 {
     read_unlisted(part(table, RECORD * i, RECORD))
 }
@@ -95,16 +78,15 @@ pub fn phase_at(table: &[u8], i: usize) -> Phase
 // The line of a used record, of which only the bare phase and the children are known.
 pub fn unheld_at(table: &[u8], i: usize) -> Record
     requires { UsedAt table.now i }
-    ensures result_value { line_of result ≡ unheld (bare (line_from (slot table.now i)).phase) (line_from (slot table.now i)).children }
-    ensures in_arrays { InArrays result }
+    ensures { line_of result ≡ unheld (bare (line_from (slot table.now i)).phase) (line_from (slot table.now i)).children }
 {
     read_unheld(part(table, RECORD * i, RECORD))
 }
 
 // The place facts of the line of a used record that waits for the country answer.
-pub fn awaited_at(table: &[u8], i: usize) -> MaybeFacts
+pub fn awaited_at(table: &[u8], i: usize) -> Option<Facts>
     requires { UsedAt table.now i }
-    ensures { facts_option result ≡ awaited_in (line_from (slot table.now i)).phase }
+    ensures { result ≡ awaited_in (line_from (slot table.now i)).phase }
 {
     read_awaited(part(table, RECORD * i, RECORD), PHASE_AT)
 }
@@ -167,20 +149,13 @@ pub fn keep_standing_at(table: &mut [u8], i: usize, time: u64, s: Standing)
     keep_standing(&mut table[at..at + RECORD], time, s);
 }
 
-// Stores what `keep_standing_at` does and, as the children, the first n of a list.
-pub fn keep_tunnels_at(
-    table: &mut [u8],
-    i: usize,
-    time: u64,
-    s: Standing,
-    list: [Child; CHILDREN],
-    n: usize,
-)
-    requires { UsedAt table.old i × (n ≤ most_children) }
-    ensures { GoesAt table.old i time s table.new (λ x. with_children x (take n list)) }
+// Stores what `keep_standing_at` does, and the children.
+pub fn keep_tunnels_at(table: &mut [u8], i: usize, time: u64, s: Standing, children: &[Child])
+    requires { UsedAt table.old i × (length children.now ≤ most_children) }
+    ensures { GoesAt table.old i time s table.new (λ x. with_children x children.now) }
 {
     let at = RECORD * i;
-    keep_tunnels(&mut table[at..at + RECORD], time, s, list, n);
+    keep_tunnels(&mut table[at..at + RECORD], time, s, children);
 }
 
 // Stores what `keep_standing_at` does, and a child behind the others.
@@ -192,13 +167,13 @@ pub fn keep_child_at(table: &mut [u8], i: usize, time: u64, s: Standing, child: 
     keep_child(&mut table[at..at + RECORD], time, s, child);
 }
 
-// Stores the time of a line that has a chosen address; the line becomes idle, and the address is held behind the holds in force where the count is 1.
-pub fn keep_hold_at(table: &mut [u8], i: usize, time: u64, end: End, count: usize)
-    requires { UsedAt table.old i × (count ≤ 1) }
-    ensures { (a : Address) → chosen (line_from (slot table.old i)).phase ≡ some a → Wrote table.old (record_length * i) (record_octets (field (slot table.old i) 0 1) (held_for time a end count (line_from (slot table.old i)))) table.new }
+// Stores the time of a line that has a chosen address; the line becomes idle, and the address is held behind the holds in force where there is an end.
+pub fn keep_hold_at(table: &mut [u8], i: usize, time: u64, end: Option<End>)
+    requires { UsedAt table.old i }
+    ensures { (a : Address) → chosen (line_from (slot table.old i)).phase ≡ Some a → Wrote table.old (record_length * i) (record_octets (field (slot table.old i) 0 1) (held_for time a end (line_from (slot table.old i)))) table.new }
 {
     let at = RECORD * i;
-    keep_hold(&mut table[at..at + RECORD], time, end, count);
+    keep_hold(&mut table[at..at + RECORD], time, end);
 }
 
 // Stores the record of a pair that was just opened.

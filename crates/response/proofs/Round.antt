@@ -12,6 +12,7 @@ use Rattle.octets.specs.Part.{part}
 use Rattle.octets.specs.Search.{all_of}
 use Rattle.octets.proofs.Digits.{number_digits}
 use Rattle.octets.proofs.Fields.{be_field, field_below, part_join, part_whole}
+use Rattle.std.specs.Prelude.{Some}
 use Rattle.octets.proofs.Parts.{length_part}
 use Rattle.octets.proofs.Search.{and_left, and_right}
 use Rattle.eap.specs.Branch.{response_of}
@@ -95,7 +96,7 @@ module _ (i : ℕ) (p n : List ℕ) (room : ℕ) (a : Accepted i p n room) where
       nas_whole P (16 + length p) (within P (16 + length p) (omega (arith, size)) (omega (arith, size, nas_length_is)))
       (omega (arith, nas_length_is, a.fits.nas_some)) (omega (arith, nas_length_is, a.fits.nas_short))
 
-  is_read : read_packet P ≡ NasResponse i 16 (length p) (18 + length p) (length n)
+  is_read : read_packet P ≡ Some (NasResponse i 16 (length p) (18 + length p) (length n))
   unfolding response_of
   is_read =
       let e : 16 + length p + 2 ≡ 18 + length p = omega arith in
@@ -185,7 +186,7 @@ module _ (l : List ℕ) (octets : all_of (below 256) l ≡ true) (r : is_nas_res
         follow 0 (14 + (2 + m)) (2 + n) (follow 0 14 (2 + m) header_back parameters_back) (nas_back ∙ ap (λ (k : ℕ). part l k (2 + n)) at)
         ∙ ap (part l 0) all ∙ part_whole l
 
-pub read_write : (l : List ℕ) → all_of (below 256) l ≡ true → (i p m at n : ℕ) → read_packet l ≡ NasResponse i p m at n
+pub read_write : (l : List ℕ) → all_of (below 256) l ≡ true → (i p m at n : ℕ) → read_packet l ≡ Some (NasResponse i p m at n)
     → (write_refusal i (part l p m) (part l at n) 3090 ≡ 0) × (spare l ≡ 0 → at + n ≡ length l → response i (part l p m) (part l at n) ≡ l)
 read_write l octets i p m at n e =
     let r = response_read l i p m at n (sym e) in

@@ -1,19 +1,18 @@
 -- When a response is written, how long it is, and what the buffer holds afterwards.
-use Prim.Native.Nat.{ℕ, ◌+◌, ◌≤◌, ◌<◌}
+use Prim.Native.Nat.{ℕ, ◌+◌, ◌≤◌}
 use mathlib.Core.Bool.{Bool, true, false, cond, not, ◌||◌}
 use mathlib.Core.List.{List, [], ◌∷◌}
 use mathlib.Core.Path.{◌≡◌, refl}
 use native.Mathlib.Omega.{arith}
 use lib.Dec.{ltb}
 use lib.ListN.{length, length-append}
-use borrow.Author.Tests.{lt-ltb, le-ltb, ltb-false, eq-eqb, ne_eqb, not-false}
+use borrow.Author.Tests.{le-ltb, ltb-false, not-false}
 use Rattle.octets.specs.Digits.{be, digits}
-use Rattle.octets.specs.Part.{zeros, padded}
 use Rattle.octets.specs.Refusal.{◌when◌, refusal}
 use Rattle.octets.proofs.Refusals.{refusal_step}
 use Rattle.octets.proofs.Search.{or_left, or_right}
 use Rattle.parameters.specs.Parameters.{well_formed}
-use Rattle.response.specs.Response.{header, block, response, lent_out_of_range, out_of_range, write_refusal, written}
+use Rattle.response.specs.Response.{header, block, response, lent_out_of_range, out_of_range, write_refusal}
 
 pub length_block : (l : List ℕ) → length (block l) ≡ 2 + length l
 unfolding block be digits
@@ -58,24 +57,10 @@ module _ (p n : List ℕ) where
   not_out fits = simp (le-ltb 1024 (length p) fits.parameters_short, le-ltb (length n) 1 fits.nas_some, le-ltb 2048 (length n) fits.nas_short)
 
 module _ (i : ℕ) (p n : List ℕ) (room : ℕ) where
-  pub too_short : room < 3090 → 3 ≡ write_refusal i p n room
-  unfolding write_refusal refusal
-  too_short h = simp (lt-ltb room 3090 h)
-
-  module _ (enough : 3090 ≤ room) where
-    pub identifier_high : 255 < i → 8 ≡ write_refusal i p n room
-    unfolding write_refusal refusal out_of_range
-    identifier_high h = simp (le-ltb room 3090 enough, lt-ltb 255 i h)
-
-    module _ (octet : i ≤ 255) where
-      pub lent_out : lent_out_of_range p n ≡ true → 8 ≡ write_refusal i p n room
-      unfolding write_refusal refusal out_of_range
-      lent_out e = simp (le-ltb room 3090 enough, le-ltb 255 i octet, e)
-
-      -- what is in range is refused by its AN-parameters alone
-      pub by_parameters : lent_out_of_range p n ≡ false → {b : Bool} → well_formed p ≡ b → cond (not b) 9 0 ≡ write_refusal i p n room
-      unfolding write_refusal refusal out_of_range
-      by_parameters e f = simp (le-ltb room 3090 enough, le-ltb 255 i octet, e, f)
+  -- what is in range is refused by its AN-parameters alone
+  pub by_parameters : 3090 ≤ room → i ≤ 255 → lent_out_of_range p n ≡ false → {b : Bool} → well_formed p ≡ b → cond (not b) 9 0 ≡ write_refusal i p n room
+  unfolding write_refusal refusal out_of_range
+  by_parameters enough octet e f = simp (le-ltb room 3090 enough, le-ltb 255 i octet, e, f)
 
   pub accepted : write_refusal i p n room ≡ 0 → Accepted i p n room
   unfolding write_refusal out_of_range
@@ -94,13 +79,3 @@ module _ (i : ℕ) (p n : List ℕ) (room : ℕ) where
   response_fits e =
       let a = accepted e in
       rw (length_response i p n) (omega arith)
-
-  -- the buffer after a call
-  module _ (l : List ℕ) where
-    pub refused : (write_refusal i p n room ≡ 0 → ⊥) → l ≡ zeros room → l ≡ written i p n room
-    unfolding written
-    refused h clear = rw (ne_eqb (write_refusal i p n room) 0 h) clear
-
-    pub wrote : write_refusal i p n room ≡ 0 → l ≡ padded room (response i p n) → l ≡ written i p n room
-    unfolding written
-    wrote none w = rw (eq-eqb (write_refusal i p n room) 0 none) w

@@ -3,6 +3,7 @@
 
 ghost use Rattle.std.specs.Prelude.{◌≡◌, ◌+◌, ◌≤◌, length};
 ghost use Rattle.octets.specs.Part.{Wrote, padded, zeros};
+ghost use Rattle.refusal.specs.Numbers.{number_in};
 ghost use Rattle.response.specs.Laws.{Laws};
 ghost use Rattle.response.specs.Response.{block, header, lent_out_of_range, response, write_refusal, written};
 
@@ -11,34 +12,39 @@ use buffer::slice::{copy, zero};
 use eap::MOST_NAS;
 use parameter_reader::well_formed;
 use parameters::MOST_PARAMETERS;
+use refusal::Refusal;
 
 // The smallest buffer that a response is written to.
 pub const REPLY_ROOM: usize = 3090;
 
 // Whether AN-parameters have over 1,024 octets, or NAS none or over 2,048.
+#[tactic(auto, unfolding(crate::specs::Response::lent_out_of_range))]
 pub fn is_out_of_range(parameters: &[u8], nas: &[u8]) -> bool
     ensures { result ≡ lent_out_of_range parameters.now nas.now }
 {
-    (MOST_PARAMETERS < parameters.len()) | (nas.len() < 1) | (MOST_NAS < nas.len())
+    MOST_PARAMETERS < parameters.len() || !(1..=MOST_NAS).contains(&nas.len())
 }
 
-// The refusal number for what is lent with an identifier and a buffer, 0 where there is none.
-fn refusal(identifier: u64, parameters: &[u8], nas: &[u8], room: usize) -> u64
-    ensures { result ≡ write_refusal identifier parameters.now nas.now room }
+// Whether what is lent with an identifier is written to a buffer of so many octets, or why it is refused.
+#[tactic(auto, unfolding(crate::specs::Response::write_refusal, crate::specs::Response::out_of_range, octets::specs::Refusal::refusal))]
+fn check_writable(
+    identifier: u64,
+    parameters: &[u8],
+    nas: &[u8],
+    room: usize,
+) -> Result<(), Refusal>
+    ensures { number_in result ≡ write_refusal identifier parameters.now nas.now room }
 {
     if room < REPLY_ROOM {
-        return 3;
+        return Err(Refusal::Buffer);
     }
-    if MOST_OCTET < identifier {
-        return 8;
-    }
-    if is_out_of_range(parameters, nas) {
-        return 8;
+    if MOST_OCTET < identifier || is_out_of_range(parameters, nas) {
+        return Err(Refusal::Range);
     }
     if !well_formed(parameters) {
-        return 9;
+        return Err(Refusal::Malformed);
     }
-    0
+    Ok(())
 }
 
 // Stores the header of a NAS response.
@@ -79,28 +85,21 @@ pub fn fill_response(identifier: u64, parameters: &[u8], nas: &[u8], packet: &mu
     18 + m + n
 }
 
-// Writes a NAS response and zeros after it; of an identifier its lowest octet.
-fn put_response(identifier: u64, parameters: &[u8], nas: &[u8], packet: &mut [u8]) -> usize
-    requires { 18 + length parameters.now + length nas.now ≤ length packet.old }
-    ensures buffer { packet.new ≡ padded (length packet.old) (response identifier parameters.now nas.now) }
-    ensures count { result ≡ length (response identifier parameters.now nas.now) }
-{
-    zero(packet);
-    fill_response(identifier, parameters, nas, packet)
-}
-
-// Writes a NAS response and zeros after it, or zeros alone and the number of the refusal.
-pub fn write_response(identifier: u64, parameters: &[u8], nas: &[u8], packet: &mut [u8]) -> u64
-    ensures refused { result ≡ write_refusal identifier parameters.now nas.now (length packet.old) }
+// Writes a NAS response and zeros after it, or zeros alone where it is refused.
+#[tactic(auto, unfolding(crate::specs::Response::written))]
+pub fn write_response(
+    identifier: u64,
+    parameters: &[u8],
+    nas: &[u8],
+    packet: &mut [u8],
+) -> Result<(), Refusal>
+    ensures refused { number_in result ≡ write_refusal identifier parameters.now nas.now (length packet.old) }
     ensures buffer { packet.new ≡ written identifier parameters.now nas.now (length packet.old) }
 {
-    let number = refusal(identifier, parameters, nas, packet.len());
-    if number != 0 {
-        zero(packet);
-        return number;
-    }
-    put_response(identifier, parameters, nas, packet);
-    0
+    zero(packet);
+    check_writable(identifier, parameters, nas, packet.len())?;
+    fill_response(identifier, parameters, nas, packet);
+    Ok(())
 }
 
 // Does nothing; its promise is that writing and reading undo each other.

@@ -1,8 +1,8 @@
 -- An accepted call's act can be applied.
+use Rattle.std.specs.Prelude.{Option, None, Some, is_some}
 use Prim.Native.Nat.{ℕ, ◌*◌, ◌≤◌, ◌<◌}
 use mathlib.Core.Bool.{Bool, true, false, not, ◌&&◌, ◌||◌, true≢false}
 use mathlib.Core.List.{List}
-use mathlib.Core.Option.{Option, none, some}
 use mathlib.Core.Path.{◌≡◌, refl, sym, ap, ◌∙◌, subst}
 use native.Mathlib.Nat.{zero-add}
 use native.Mathlib.Omega.{arith}
@@ -18,7 +18,6 @@ use Rattle.octets.proofs.Fields.{all_of_part}
 use Rattle.octets.proofs.Parts.{length_part, same_equal}
 use Rattle.octets.proofs.Rows.{get_d_row}
 use Rattle.octets.proofs.Search.{and_right, or_left, or_right, or_true}
-use Rattle.octets.specs.Row.{is_some}
 use Rattle.children.specs.Children.{spis_differ}
 use Rattle.holds.specs.Holds.{different}
 use Rattle.phase.specs.Chosen.{chosen}
@@ -84,12 +83,11 @@ module _ (tenant line : ℕ) (pair_is : is_above_last tenant line ≡ false) whe
   -- the call's own line is the one that is found under its pair
   pub own_is : (ss : List Slot) (b : Bool) → line_seen (view_of b tenant ss) line ≡ line_at (pair_of tenant line) ss
   unfolding line_seen view_of own_line
-  own_is ss b = get_d_row (own_line tenant ss) none 0 4 line (omega (arith, line_range)) ∙ ap (own_line tenant ss) (zero-add line)
+  own_is ss b = get_d_row (own_line tenant ss) None 0 4 line (omega (arith, line_range)) ∙ ap (own_line tenant ss) (zero-add line)
 
 -- the line of an open pair of a sound table is sound and fits its octets
-module _ (l : List ℕ) (sound : is_table l ≡ true) (pair : ℕ) (low : 1 ≤ pair) (x : Line) (e : line_at pair (slots_of l) ≡ some x) where
+module _ (l : List ℕ) (sound : is_table l ≡ true) (pair : ℕ) (low : 1 ≤ pair) (x : Line) (e : line_at pair (slots_of l) ≡ Some x) where
   pub is_found : record_of l pair < 32
-  unfolding is_some
   is_found = ltb-true (record_of l pair) 32 (sym (open_found l pair) ∙ open_line pair low (slots_of l) ∙ ap is_some e)
 
   abbrev s : List ℕ
@@ -168,13 +166,13 @@ module _ (l : List ℕ) (good : Good l) (tenant line time : ℕ) (e : Event) (oc
   change_of y = (timed_step tenant line e y).act
 
   -- the line that it finds stands in its record
-  line_ready : (x : Line) → line_seen w line ≡ some x → Ready l (change_of (line_found line time w))
+  line_ready : (x : Line) → line_seen w line ≡ Some x → Ready l (change_of (line_found line time w))
   unfolding timed_step line_found line_or may_stand is_of pair_in
   line_ready x seen =
       let q = pair_of tenant line in
       let pair_is = timed_pair tenant line time e w r in
       let low = pair_low tenant line pair_is in
-      let at_pair : line_at q (slots_of l) ≡ some x = sym (own_is tenant line pair_is (slots_of l) (is_table l)) ∙ seen in
+      let at_pair : line_at q (slots_of l) ≡ Some x = sym (own_is tenant line pair_is (slots_of l) (is_table l)) ∙ seen in
       let found : line_found line time w ≡ current time x = ap (λ (o : Option Line). current time (line_or o)) seen in
       let number = subst (λ (y : Line). refusal (refusals_of e (ltb last_time time) y) ≡ 0) found (event_number tenant line time e w r) in
       let kept = keeps_line e time x octets (found_sound l good.sound q low x at_pair) (found_storable l good.sound q low x at_pair good.octets) number in
@@ -183,12 +181,12 @@ module _ (l : List ℕ) (good : Good l) (tenant line time : ℕ) (e : Event) (oc
       (is_found l good.sound q low x at_pair, used_fits tenant line pair_is (outcome e (current time x)).line kept.0 kept.1, ap (λ (b : Bool). b || not (is_open q (slots_of l))) own)
 
   timed_ready : Ready l (change_of (line_found line time w))
-  unfolding is_not_open is_some
+  unfolding is_not_open
   timed_ready = go (line_seen w line) refl
     where
       go : (o : Option Line) → line_seen w line ≡ o → Ready l (change_of (line_found line time w))
-      go none seen = absurd (true≢false (sym (ap (λ (o : Option Line). not (is_some o)) seen) ∙ r.row_5))
-      go (some x) seen = line_ready x seen
+      go None seen = absurd (true≢false (sym (ap (λ (o : Option Line). not (is_some o)) seen) ∙ r.row_5))
+      go (Some x) seen = line_ready x seen
 
 pub ready : (c : Call) (l : List ℕ) → is_octets c ≡ true → Good l → refusal (refusals c (view_in c l)) ≡ 0 → Ready l (step_of c l).act
 unfolding step_of view_in tenant_of step is_octets lent_octets

@@ -1,14 +1,13 @@
 -- What an act does to a sound table: it stays sound, and which lines it has afterwards.
+use Rattle.std.specs.Prelude.{Option, None, is_some}
 use Prim.Native.Nat.{ℕ, ◌≤◌, ◌<◌}
 use mathlib.Core.Bool.{Bool, true, false, cond, not, ◌||◌}
 use mathlib.Core.List.{List}
-use mathlib.Core.Option.{Option, none}
 use mathlib.Core.Path.{◌≡◌, refl, sym, ap, ◌∙◌, subst}
 use native.Mathlib.Omega.{arith}
 use lib.Dec.{eqb}
 use borrow.Author.Tests.{eqb-true, eq-eqb, ne_eqb, lt-ltb, not-true}
 use Rattle.octets.proofs.Search.{either}
-use Rattle.octets.specs.Row.{is_some}
 use Rattle.record.specs.Line.{Line}
 use Rattle.table.specs.Laws.{may_stand, slot_fits}
 use Rattle.table.specs.Slots.{Slot, is_of, is_open, line_at, pair_in, replaced, slot_line, slots_of}
@@ -42,7 +41,7 @@ module _ (l : List ℕ) (good : Good l) where
 -- the line of a pair after an act, by its line before
 unfoldable pub line_after : Act → ℕ → Option Line → Option Line
 line_after stay q o = o
-line_after (replace pair s) q o = cond (eqb (pair_in s) q) (slot_line s) (cond (eqb pair q) none o)
+line_after (replace pair s) q o = cond (eqb (pair_in s) q) (slot_line s) (cond (eqb pair q) None o)
 
 module _ (l : List ℕ) (good : Good l) (pair : ℕ) (s : Slot) (r : Ready l (replace pair s)) (q : ℕ) (low : 1 ≤ q) where
   abbrev ss : List Slot
@@ -66,12 +65,12 @@ module _ (l : List ℕ) (good : Good l) (pair : ℕ) (s : Slot) (r : Ready l (re
   replaced_line : line_at q (replaced pair s ss) ≡ line_after (replace pair s) q (line_at q ss)
   unfolding line_after
   replaced_line =
-      either (pair_in s) q (λ e. own_line_lem e ∙ sym (ap (λ (b : Bool). cond b (slot_line s) (cond (eqb pair q) none (line_at q ss))) (eq-eqb (pair_in s) q e)))
+      either (pair_in s) q (λ e. own_line_lem e ∙ sym (ap (λ (b : Bool). cond b (slot_line s) (cond (eqb pair q) None (line_at q ss))) (eq-eqb (pair_in s) q e)))
       (λ apart. either pair q (λ e. gone apart e) (λ away. line_other pair s q away apart ss ∙ sym (rw (ne_eqb (pair_in s) q apart, ne_eqb pair q away))))
     where
-      gone : (pair_in s ≡ q → ⊥) → pair ≡ q → line_at q (replaced pair s ss) ≡ cond (eqb (pair_in s) q) (slot_line s) (cond (eqb pair q) none (line_at q ss))
+      gone : (pair_in s ≡ q → ⊥) → pair ≡ q → line_at q (replaced pair s ss) ≡ cond (eqb (pair_in s) q) (slot_line s) (cond (eqb pair q) None (line_at q ss))
       gone apart e =
-          subst (λ (k : ℕ). line_at k (replaced pair s ss) ≡ none) e (line_dropped pair s (omega arith) (λ f. apart (f ∙ e)) ss (slots_once l good.sound))
+          subst (λ (k : ℕ). line_at k (replaced pair s ss) ≡ None) e (line_dropped pair s (omega arith) (λ f. apart (f ∙ e)) ss (slots_once l good.sound))
           ∙ sym (rw (ne_eqb (pair_in s) q apart, eq-eqb pair q e))
 
 pub act_line : (l : List ℕ) → Good l → (a : Act) → Ready l a → (q : ℕ) → 1 ≤ q → line_at q (slots_of (applied a l)) ≡ line_after a q (line_at q (slots_of l))
@@ -86,11 +85,11 @@ open_after stay q b = b
 open_after (replace pair s) q b = cond (eqb (pair_in s) q) (is_some (slot_line s)) (cond (eqb pair q) false b)
 
 after_open : (a : Act) (q : ℕ) (o : Option Line) → is_some (line_after a q o) ≡ open_after a q (is_some o)
-unfolding line_after open_after is_some
+unfolding line_after open_after
 after_open stay q o = refl
 after_open (replace pair s) q o = go (eqb (pair_in s) q) (eqb pair q)
   where
-    go : (b c : Bool) → is_some (cond b (slot_line s) (cond c none o)) ≡ cond b (is_some (slot_line s)) (cond c false (is_some o))
+    go : (b c : Bool) → is_some (cond b (slot_line s) (cond c None o)) ≡ cond b (is_some (slot_line s)) (cond c false (is_some o))
     go true c = refl
     go false true = refl
     go false false = refl

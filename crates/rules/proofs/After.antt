@@ -1,8 +1,8 @@
 -- What an accepted timed call leaves of the line's time, holds and children.
+use Rattle.std.specs.Prelude.{Option, None, Some}
 use Prim.Native.Nat.{ℕ, ◌+◌, ◌*◌, ◌/◌, ◌%◌}
 use mathlib.Core.Bool.{Bool, true, false, cond}
 use mathlib.Core.List.{List, [], ◌∷◌, ◌++◌, append-nil}
-use mathlib.Core.Option.{Option, none, some}
 use mathlib.Core.Path.{◌≡◌, refl, sym, ap, ◌∙◌, subst}
 use lib.Dec.{eqb}
 use Rattle.address.specs.declared.Address.{Address}
@@ -30,8 +30,8 @@ use Rattle.rules.proofs.Timed.{timed_run}
 -- the timer octet sets the hold that its unit and count say
 timer_hold_lem : (time octet : ℕ) (o : Option Address) → chosen_hold time (timer_of octet) o ≡ congestion_hold time octet o
 unfolding chosen_hold timer_hold timer_of congestion_hold
-timer_hold_lem time octet none = refl
-timer_hold_lem time octet (some a) = go (eqb (octet / 32) 7) (eqb (octet % 32) 0)
+timer_hold_lem time octet None = refl
+timer_hold_lem time octet (Some a) = go (eqb (octet / 32) 7) (eqb (octet % 32) 0)
   where
     seconds : ℕ
     seconds = octet % 32 * unit_seconds (octet / 32)
@@ -86,7 +86,7 @@ module _ (x : Line) where
   steps ike_delete = record { time = refl; holds = sym (append-nil x.holds); children = refl }
 
 -- the line that the call finds has the call's time and the holds that haven't ended
-found_after : (e : Event) (time : ℕ) (x : Line) → After e time x (some (outcome e (current time x)).line)
+found_after : (e : Event) (time : ℕ) (x : Line) → After e time x (Some (outcome e (current time x)).line)
 unfolding current
 found_after e time x =
     let s = steps (current time x) e in

@@ -1,9 +1,9 @@
 -- An event is allowed wherever a row of 'Life of a line' begins.
+use Rattle.std.specs.Prelude.{Bool, is_some}
 use Prim.Native.Nat.{ℕ}
 use mathlib.Core.Bool.{true, not, ◌&&◌}
 use mathlib.Core.Path.{◌≡◌, refl, ap, ap₂, ◌∙◌}
 use borrow.Author.Tests.{eq-eqb}
-use Rattle.octets.specs.Row.{is_some}
 use Rattle.children.specs.Children.{has_spi}
 use Rattle.phase.specs.Stage.{is_in}
 use Rattle.phase.specs.Stage as Stage
@@ -15,7 +15,7 @@ use Rattle.rules.specs.declared.Action.{Action}
 use Rattle.rules.specs.Phases.{last_reply, owed, turn_in, underway}
 use Rattle.rules.specs.Refusals.{is_allowed, is_due, is_identifier}
 
-under : {p : Phase} {ended : ℕ} → Underway p ended → underway p ≡ true
+under : {p : Phase} {ended : Bool} → Underway p ended → underway p ≡ true
 unfolding underway is_in
 under in_auth = refl
 under in_eap_lem = refl
@@ -23,7 +23,7 @@ under in_sure = refl
 
 allowed_in : {e : Event} {p q : Phase} {action : Action} → Transition e p q action → (x : Line) → x.phase ≡ p
     → ((spi : ℕ) → e ≡ child_deleted spi → has_spi spi x.children ≡ true) → is_allowed e x ≡ true
-unfolding is_allowed is_in is_due is_some last_reply owed turn_in is_identifier
+unfolding is_allowed is_in is_due last_reply owed turn_in is_identifier
 allowed_in start_asks x at has = ap (is_in Stage.idle) at
 allowed_in (start_decides d) x at has = ap (is_in Stage.idle) at
 allowed_in (country_decides d) x at has = ap (is_in Stage.country) at

@@ -1,8 +1,8 @@
 -- A line gets live only by a good final answer while it is sure, and sure only by a Success with the identifier of the last reply.
+use Rattle.std.specs.Prelude.{Option, None, Some, is_some}
 use Prim.Native.Nat.{ℕ, ◌≤◌}
 use mathlib.Core.Bool.{Bool, true, false, cond, false≢true}
 use mathlib.Core.List.{List}
-use mathlib.Core.Option.{Option, none, some}
 use mathlib.Core.Path.{◌≡◌, refl, sym, ap, ◌∙◌, subst}
 use native.Mathlib.Omega.{arith}
 use lib.Dec.{eqb, ltb}
@@ -10,7 +10,6 @@ use borrow.Author.Tests.{eqb-true, lt-ltb}
 use Rattle.octets.specs.Part.{same}
 use Rattle.rules.proofs.Rows.{Passes}
 use Rattle.rules.specs.View.{fresh, view_in}
-use Rattle.octets.specs.Row.{is_some}
 use Rattle.octets.proofs.Search.{either}
 use Rattle.address.specs.declared.Address.{Address}
 use Rattle.eap.specs.Packet.{read_packet}
@@ -66,7 +65,7 @@ decided_early stops = idle_early
 data Leads (e : Event) (p : Phase) : Phase → Type 0 where
   stays : Leads e p p
   early : {q : Phase} → Early q → Leads e p q
-  succeeds : (packet : List ℕ) (i : ℕ) (a : Address) → e ≡ eap packet → read_packet packet ≡ Success i → last_reply (turn_in p) ≡ some i → Leads e p (Sure a)
+  succeeds : (packet : List ℕ) (i : ℕ) (a : Address) → e ≡ eap packet → read_packet packet ≡ Some (Success i) → last_reply (turn_in p) ≡ Some i → Leads e p (Sure a)
   finishes : (a : Address) → e ≡ final 1 → is_in Stage.sure p ≡ true → Leads e p (Live a)
 
 leads : {e : Event} {p q : Phase} {action : Action} → Transition e p q action → Leads e p q
@@ -92,14 +91,14 @@ leads child_taken = stays
 leads ike_deleted = early idle_early
 
 module _ (tenant line time : ℕ) (x : Line) {e : Event} where
-  live_by : {q : Phase} → Leads e x.phase q → is_in Stage.live q ≡ true → LiveBy (timed tenant line time e) tenant line (some x)
+  live_by : {q : Phase} → Leads e x.phase q → is_in Stage.live q ≡ true → LiveBy (timed tenant line time e) tenant line (Some x)
   unfolding is_in
   live_by stays h = was_live x h
   live_by (early f) h = absurd (false≢true (sym f.not_live ∙ h))
   live_by (succeeds packet i a q r last) h = absurd (false≢true h)
   live_by (finishes a q before) h = auth_good x time (ap (timed tenant line time) q) before
 
-  sure_by : {q : Phase} → Leads e x.phase q → is_in Stage.sure q ≡ true → SureBy (timed tenant line time e) tenant line (some x)
+  sure_by : {q : Phase} → Leads e x.phase q → is_in Stage.sure q ≡ true → SureBy (timed tenant line time e) tenant line (Some x)
   unfolding is_in
   sure_by stays h = was_sure x h
   sure_by (early f) h = absurd (false≢true (sym f.not_sure ∙ h))
@@ -108,17 +107,17 @@ module _ (tenant line time : ℕ) (x : Line) {e : Event} where
 
 -- how a pair came by the line that it has after a call
 data Came (c : Call) (l : List ℕ) (tenant line : ℕ) (y : Line) : Type 0 where
-  kept : line_in l tenant line ≡ some y → Came c l tenant line y
+  kept : line_in l tenant line ≡ Some y → Came c l tenant line y
   opened : y ≡ fresh → Came c l tenant line y
   happened : (time : ℕ) (e : Event) (x : Line) → c ≡ timed tenant line time e → Timed tenant line time e l x → y ≡ (outcome e (current time x)).line
       → Came c l tenant line y
 
 -- the line that stands where a slot of a pair was put, or the one from before
-put_or_kept : {A : Type 0} (k pair q : ℕ) (s o : Option Line) (y : Line) → cond (eqb k q) s (cond (eqb pair q) none o) ≡ some y
-    → (k ≡ q → s ≡ some y → A) → (o ≡ some y → A) → A
+put_or_kept : {A : Type 0} (k pair q : ℕ) (s o : Option Line) (y : Line) → cond (eqb k q) s (cond (eqb pair q) None o) ≡ Some y
+    → (k ≡ q → s ≡ Some y → A) → (o ≡ Some y → A) → A
 put_or_kept {A} k pair q s o y h new old = go (eqb k q) (eqb pair q) refl h
   where
-    go : (a b : Bool) → eqb k q ≡ a → cond a s (cond b none o) ≡ some y → A
+    go : (a b : Bool) → eqb k q ≡ a → cond a s (cond b None o) ≡ Some y → A
     go true b e g = new (eqb-true k q e) g
     go false true e g = let z : ◌≡◌ {A = ℕ} 0 1 = cc in absurd (omega arith)
     go false false e g = old g
@@ -135,13 +134,13 @@ module _ (tenant line time : ℕ) (e : Event) (l : List ℕ) (octets : is_octets
   abbrev p : ℕ
   p = pair_of tenant line
 
-  own_came : (y : Line) → line_in (run d l).table tenant line ≡ some y → Came d l tenant line y
-  unfolding step_of step timed_step pair_of is_some
+  own_came : (y : Line) → line_in (run d l).table tenant line ≡ Some y → Came d l tenant line y
+  unfolding step_of step timed_step pair_of
   own_came y h = go (line_in l tenant line) refl (sym (open_line p (omega arith) (slots_of l)) ∙ open_found l p ∙ lt-ltb (record_of l p) 32 (ready d l octets good n).0)
     where
       go : (o : Option Line) → line_in l tenant line ≡ o → is_some o ≡ true → Came d l tenant line y
-      go none q there = absurd (false≢true there)
-      go (some x) q there =
+      go None q there = absurd (false≢true there)
+      go (Some x) q there =
           let t : Timed tenant line time e l x = record { octets = octets; good = good; stands = q; accepted = given_is d l ∙ n } in
           let after = (timed_run tenant line time e l x t).1 in
           happened time e x refl t (cc)
@@ -151,15 +150,15 @@ module _ (l : List ℕ) (good : Good l) (tenant line : ℕ) (small : line ≤ 3)
   q = pair_of tenant line
 
   -- a line that stands after an accepted call was put there or stood before
-  module _ (c : Call) (octets : is_octets c ≡ true) (n : number c l ≡ 0) (h : line_in (run c l).table tenant line ≡ some y) where
-    acted : line_after (step_of c l).act q (line_in l tenant line) ≡ some y
+  module _ (c : Call) (octets : is_octets c ≡ true) (n : number c l ≡ 0) (h : line_in (run c l).table tenant line ≡ Some y) where
+    acted : line_after (step_of c l).act q (line_in l tenant line) ≡ Some y
     unfolding pair_of
     acted =
         sym (ap (λ (r : Result). line_at q (slots_of r.table)) (accepted c l n) ∙ act_line l good (step_of c l).act (ready c l octets good n) q (omega arith)) ∙ h
 
   -- its own timed call is one on the same tenant and line
   same_pair_lem : (t k time : ℕ) (e : Event) → is_octets (timed t k time e) ≡ true → number (timed t k time e) l ≡ 0
-      → line_in (run (timed t k time e) l).table tenant line ≡ some y → pair_of t k ≡ q → Came (timed t k time e) l tenant line y
+      → line_in (run (timed t k time e) l).table tenant line ≡ Some y → pair_of t k ≡ q → Came (timed t k time e) l tenant line y
   unfolding pair_of
   same_pair_lem t k time e octets n h same =
       let c = timed t k time e in
@@ -169,24 +168,24 @@ module _ (l : List ℕ) (good : Good l) (tenant line : ℕ) (small : line ≤ 3)
       subst (λ (a : ℕ). Came c l a line y) tenants
       (subst (λ (b : ℕ). Came c l t b y) lines (own_came t k time e l octets good n y (ap (λ (p : ℕ). line_at p (slots_of (run c l).table)) same ∙ h)))
 
-  came_accepted : (c : Call) → is_octets c ≡ true → number c l ≡ 0 → line_in (run c l).table tenant line ≡ some y → Came c l tenant line y
+  came_accepted : (c : Call) → is_octets c ≡ true → number c l ≡ 0 → line_in (run c l).table tenant line ≡ Some y → Came c l tenant line y
   unfolding step_of step timed_step line_after pair_in slot_line pair_of
-  came_accepted (opening t k) octets n h = put_or_kept (pair_of t k) 0 q (some fresh) (line_in l tenant line) y (acted (opening t k) octets n h) (λ e f. opened (cc)) kept
+  came_accepted (opening t k) octets n h = put_or_kept (pair_of t k) 0 q (Some fresh) (line_in l tenant line) y (acted (opening t k) octets n h) (λ e f. opened (cc)) kept
   came_accepted (closing t k) octets n h =
-      put_or_kept 0 (pair_of t k) q none (line_in l tenant line) y (acted (closing t k) octets n h) (λ e f. absurd (omega arith)) kept
+      put_or_kept 0 (pair_of t k) q None (line_in l tenant line) y (acted (closing t k) octets n h) (λ e f. absurd (omega arith)) kept
   came_accepted (listing t room) octets n h = kept (acted (listing t room) octets n h)
   came_accepted (timed t k time e) octets n h =
       put_or_kept (pair_of t k) (pair_of t k) q _ (line_in l tenant line) y (acted (timed t k time e) octets n h) (λ same f. same_pair_lem t k time e octets n h same) kept
 
-  came : (c : Call) → is_octets c ≡ true → line_in (run c l).table tenant line ≡ some y → Came c l tenant line y
+  came : (c : Call) → is_octets c ≡ true → line_in (run c l).table tenant line ≡ Some y → Came c l tenant line y
   came c octets h =
       either (number c l) 0 (λ n. came_accepted c octets n h) (λ r. kept (sym (ap (λ (t : List ℕ). line_in t tenant line) (table_left c l r)) ∙ h))
 
   -- a test of phases that an idle line doesn't pass, and what is known of a line that passes it
   module _ (test : Phase → Bool) (By : Call → Option Line → Type 0) (rested : test Idle ≡ false)
-      (stood : (c : Call) (x : Line) → test x.phase ≡ true → By c (some x))
+      (stood : (c : Call) (x : Line) → test x.phase ≡ true → By c (Some x))
       (passed : (time : ℕ) (e : Event) (x : Line) → Passes e (ltb last_time time) (current time x)
-      → test (outcome e (current time x)).line.phase ≡ true → By (timed tenant line time e) (some x)) where
+      → test (outcome e (current time x)).line.phase ≡ true → By (timed tenant line time e) (Some x)) where
     known : (c : Call) → Came c l tenant line y → test y.phase ≡ true → By c (line_in l tenant line)
     unfolding fresh
     known c (kept e) h = subst (By c) (sym e) (stood c y h)
@@ -196,7 +195,7 @@ module _ (l : List ℕ) (good : Good l) (tenant line : ℕ) (small : line ≤ 3)
         (subst (By (timed tenant line time e)) (sym t.stands) (passed time e x (event_passes tenant line time e l x t) (sym (ap (λ (z : Line). test z.phase) after) ∙ h)))
 
 module _ (c : Call) (l : List ℕ) (tenant line : ℕ) (y : Line) (octets : is_octets c ≡ true) (good : Good l) (small : line ≤ 3)
-    (h : line_in (run c l).table tenant line ≡ some y) where
+    (h : line_in (run c l).table tenant line ≡ Some y) where
   abbrev came_by : Came c l tenant line y
   came_by = came l good tenant line small y c octets h
 

@@ -1,12 +1,11 @@
 -- What selection and a reply come to, in the terms of S1 to S5 and of the response.
+use Rattle.std.specs.Prelude.{Option, Some, slice_get}
 use Prim.Native.Nat.{ℕ, ◌<◌}
 use mathlib.Core.Bool.{Bool, false≢true}
 use mathlib.Core.List.{List}
-use mathlib.Core.Option.{Option, some, some-injective}
 use mathlib.Core.Path.{◌≡◌, refl, sym, ap, ap₂, ◌∙◌, subst}
 use native.Mathlib.Omega.{arith}
 use lib.Dec.{eqb}
-use lib.ListN.{get_elem?}
 use Rattle.octets.specs.Part.{padded}
 use Rattle.octets.specs.Row.{FirstAt}
 use Rattle.octets.proofs.Search.{lower}
@@ -32,6 +31,7 @@ use Rattle.rules.specs.Life.{address_answered, country_answered, decided, gatewa
 use Rattle.rules.specs.Phases.{facts_in, owed, turn_in}
 use Rattle.rules.specs.Run.{answer_of, run}
 use Rattle.rules.proofs.Timed.{timed_run}
+use Rattle.std.proofs.lemmas.Option.{same_Some}
 
 -- of two first elements that pass neither stands before the other
 module _ {A : Type 0} {p : A → Bool} {l : List A} where
@@ -41,8 +41,8 @@ module _ {A : Type 0} {p : A → Bool} {l : List A} where
   first_once : {k j : ℕ} {a b : A} → FirstAt p l k a → FirstAt p l j b → (k ≡ j) × (a ≡ b)
   first_once {k} {j} {a} {b} s t =
       let same : k ≡ j = lower k j (λ h. absurd (not_before s t h)) (λ h. lower j k (λ g. absurd (not_before t s g)) (λ g. omega arith)) in
-      let there : some a ≡ some b = sym s.there ∙ ap (get_elem? l) same ∙ t.there in
-      (same, some-injective a b there)
+      let there : Some a ≡ Some b = sym s.there ∙ ap (slice_get l) same ∙ t.there in
+      (same, same_Some a b there)
 
 -- where an address is the first that is permitted, it is the one that is found
 found_first : (version : ℕ) (held l : List Address) (k : ℕ) (a : Address) → FirstAt (permitted version held) l k a → (found : Found) → choose version held l ≡ found
@@ -57,23 +57,23 @@ module _ (tenant line time : ℕ) (l : List ℕ) (x : Line) where
   abbrev y : Line
   y = current time x
 
-  pub start_chooses : (g : StartNumbers) (text : List ℕ) (room : ℕ) (s : Settings) → Timed tenant line time (start g text room) l x → config_of text ≡ some s
+  pub start_chooses : (g : StartNumbers) (text : List ℕ) (room : ℕ) (s : Settings) → Timed tenant line time (start g text room) l x → config_of text ≡ Some s
       → ComesTo tenant line time (start g text room) l (decided y (facts_of g) text (Selection.start s (facts_of g)))
   unfolding outcome started
   start_chooses g text room s t q =
       subst (λ (o : Option Settings). ComesTo tenant line time (start g text room) l (started y (facts_of g) text o)) q (timed_run tenant line time (start g text room) l x t)
 
   pub country_chooses : (replied : ℕ) (networks text : List ℕ) (room : ℕ) (s : Settings) (f : Facts) → Timed tenant line time (country replied networks text room) l x
-      → config_of text ≡ some s → facts_in x.phase ≡ some f
+      → config_of text ≡ Some s → facts_in x.phase ≡ Some f
       → ComesTo tenant line time (country replied networks text room) l (decided y f text (Selection.country s f (Selection.country_reply (eqb replied 1) (networks_in networks))))
   unfolding outcome country_answered current
   country_chooses replied networks text room s f t q facts =
       let e = country replied networks text room in
       let ps = Selection.country_reply (eqb replied 1) (networks_in networks) in
-      subst (λ (o : Option Settings). ComesTo tenant line time e l (country_answered y (some f) ps text o)) q
+      subst (λ (o : Option Settings). ComesTo tenant line time e l (country_answered y (Some f) ps text o)) q
       (subst (λ (o : Option Facts). ComesTo tenant line time e l (country_answered y o ps text (config_of text))) facts (timed_run tenant line time e l x t))
 
-  pub chosen_first : (list : List ℕ) (f : Facts) (k : ℕ) (a : Address) → Timed tenant line time (address list) l x → facts_in x.phase ≡ some f
+  pub chosen_first : (list : List ℕ) (f : Facts) (k : ℕ) (a : Address) → Timed tenant line time (address list) l x → facts_in x.phase ≡ Some f
       → FirstAt (permitted f.version (held_addresses y.holds)) (addresses_in list) k a → ComesTo tenant line time (address list) l (goes y (Chosen a) (Action.Chose a k))
   unfolding outcome address_answered current gateway_found
   chosen_first list f k a t facts at =
@@ -82,7 +82,7 @@ module _ (tenant line time : ℕ) (l : List ℕ) (x : Line) where
       subst (λ (found : Found). ComesTo tenant line time e l (gateway_found y found)) (found_first f.version held (addresses_in list) k a at _ refl)
       (subst (λ (o : Option Facts). ComesTo tenant line time e l (address_answered y o (addresses_in list))) facts (timed_run tenant line time e l x t))
 
-  pub reply_written : (parameters nas : List ℕ) (room i : ℕ) → Timed tenant line time (reply parameters nas room) l x → owed (turn_in x.phase) ≡ some i
+  pub reply_written : (parameters nas : List ℕ) (room i : ℕ) → Timed tenant line time (reply parameters nas room) l x → owed (turn_in x.phase) ≡ Some i
       → (run (timed tenant line time (reply parameters nas room)) l).answer.buffer ≡ padded room (response i parameters nas)
   unfolding outcome replied current answer_of event_room
   reply_written parameters nas room i t owes =

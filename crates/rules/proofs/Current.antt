@@ -1,8 +1,8 @@
 -- A line as a call finds it: its time stored, without its ended holds.
+use Rattle.std.specs.Prelude.{Option, None, Some}
 use Prim.Native.Nat.{ℕ, ◌^◌}
 use mathlib.Core.Bool.{Bool, true, false, not}
 use mathlib.Core.List.{List, map}
-use mathlib.Core.Option.{Option, none, some}
 use mathlib.Core.Path.{◌≡◌, refl, sym, ap, ◌∙◌}
 use native.Mathlib.Omega.{arith}
 use lib.Dec.{leb, ltb}
@@ -36,8 +36,8 @@ module _ (q : Hold → Bool) (hs : List Hold) where
 
   left_free : (o : Option Address) → chosen_free o (map address_in hs) ≡ true → chosen_free o (map address_in (only q hs)) ≡ true
   unfolding chosen_free stands
-  left_free none h = refl
-  left_free (some a) h =
+  left_free None h = refl
+  left_free (Some a) h =
       let apart = sym (any_map address_in (same_address a) hs) ∙ not-true (any_of (same_address a) (map address_in hs)) h in
       ap not (any_map address_in (same_address a) (only q hs) ∙ only_none q (λ g. same_address a (address_in g)) hs apart)
 

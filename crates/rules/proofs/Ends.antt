@@ -1,8 +1,8 @@
 -- Congestion: the line rests, and its address is held by the timer.
+use Rattle.std.specs.Prelude.{Option, None, Some}
 use Prim.Native.Nat.{ℕ, ◌+◌, ◌^◌, ◌≤◌, ◌<◌}
 use mathlib.Core.Bool.{true, false, ◌&&◌}
 use mathlib.Core.List.{[], ◌∷◌, ◌++◌, append-nil, map}
-use mathlib.Core.Option.{Option, none, some}
 use mathlib.Core.Path.{◌≡◌, refl, sym, ap, ◌∙◌, subst}
 use native.Mathlib.Omega.{arith}
 use lib.Dec.{ltb}
@@ -52,7 +52,7 @@ module _ (x : Line) (v : Valid x) (calm : is_in Stage.live x.phase ≡ false) (b
   same_holds = subst (HoldsValid x.time Idle) (sym (append-nil x.holds)) (rests x v calm).holds_valid
 
   -- a hold of the chosen address
-  module _ (h : Hold) (own : chosen x.phase ≡ some h.address) where
+  module _ (h : Hold) (own : chosen x.phase ≡ Some h.address) where
     own_free : stands h.address (map address_in x.holds) ≡ false
     unfolding chosen_free
     own_free =
@@ -82,14 +82,14 @@ module _ (x : Line) (v : Valid x) (calm : is_in Stage.live x.phase ≡ false) (b
   -- the hold that the timer sets, or none
   more_holds : (o : Option Address) → chosen x.phase ≡ o → (t : Timer) → ((n : ℕ) → t ≡ Timer.Seconds n → (0 < n) × (n ≤ 35_712_000)) → HoldsValid x.time Idle (x.holds ++ chosen_hold x.time t o)
   unfolding chosen_hold timer_hold ends_after end_after hold_storable end_storable
-  more_holds none e t fits = same_holds
-  more_holds (some a) e Timer.None fits = same_holds
-  more_holds (some a) e (Timer.Seconds n) fits =
+  more_holds None e t fits = same_holds
+  more_holds (Some a) e Timer.None fits = same_holds
+  more_holds (Some a) e (Timer.Seconds n) fits =
       let own = chosen_storable x.phase a e v.phase_valid.storable in
       let end = x.time + n in
       let storable = and_true (address_storable a) (ltb 0 end && ltb end (256 ^ 5)) own (end_storable_lem x.time n v.small (fits n refl)) in
       one_hold (record { address = a; end = At end }) e (end_late x.time n v.small (fits n refl)) storable
-  more_holds (some a) e Timer.Deactivated fits =
+  more_holds (Some a) e Timer.Deactivated fits =
       let own = chosen_storable x.phase a e v.phase_valid.storable in
       one_hold (record { address = a; end = Never }) e refl (and_true (address_storable a) true own refl)
 

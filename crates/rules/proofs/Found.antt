@@ -1,8 +1,8 @@
 -- The record in which a tenant's line is found.
+use Rattle.std.specs.Prelude.{None, Some}
 use Prim.Native.Nat.{ℕ, ◌≤◌, ◌<◌}
 use mathlib.Core.Bool.{true}
 use mathlib.Core.List.{List}
-use mathlib.Core.Option.{none, some}
 use mathlib.Core.Path.{◌≡◌, sym, ap, ◌∙◌, subst}
 use native.Mathlib.Omega.{arith}
 use borrow.Author.Tests.{le-ltb}
@@ -24,14 +24,14 @@ module _ (l : List ℕ) (tenant line : ℕ) {pair i : ℕ} (numbered : pair ≡ 
   pub place : record_of l p ≡ i
   place = sym (found ∙ ap (record_of l) numbered)
 
-  pub none_there : 32 ≤ i → own_line tenant (slots_of l) line ≡ none
+  pub none_there : 32 ≤ i → own_line tenant (slots_of l) line ≡ None
   unfolding own_line
   none_there h = closed_line p (slots_of l) (open_found l p ∙ le-ltb (record_of l p) 32 (omega (arith, place)))
 
   module _ (within : i < 32) where
-    pub line_there : own_line tenant (slots_of l) line ≡ some (line_from (slot l i))
+    pub line_there : own_line tenant (slots_of l) line ≡ Some (line_from (slot l i))
     unfolding own_line pair_of
-    line_there = line_found_lem l p (omega (arith, place)) (omega arith) ∙ ap (λ (k : ℕ). some (line_from (slot l k))) place
+    line_there = line_found_lem l p (omega (arith, place)) (omega arith) ∙ ap (λ (k : ℕ). Some (line_from (slot l k))) place
 
     pub record_there : is_table l ≡ true → is_record (slot l i) ≡ true
     unfolding own_line pair_of

@@ -1,14 +1,14 @@
 -- Selection, the signalling of EAP-5G and the final answer change nothing of a line but its phase, and look at its phase alone or, selection, at its holds too.
+use Rattle.std.specs.Prelude.{Option, None, Some}
 use Prim.Native.Nat.{ℕ}
 use mathlib.Core.Bool.{Bool, true, false}
 use mathlib.Core.List.{List, [], ◌∷◌}
-use mathlib.Core.Option.{Option, none, some}
 use mathlib.Core.Path.{◌≡◌, refl}
 use Rattle.address.specs.Address.{held_addresses}
 use Rattle.address.specs.declared.Address.{Address}
 use Rattle.config.specs.Settings.{Settings}
 use Rattle.eap.specs.declared.Packet.{Packet}
-use Rattle.eap.specs.declared.Packet.TheVariants.{Start, NasRequest, Success, NasResponse, Stop, Other}
+use Rattle.eap.specs.declared.Packet.TheVariants.{Start, NasRequest, Success, NasResponse, Stop}
 use Rattle.gateway.specs.Gateway.{choose}
 use Rattle.gateway.specs.declared.Found.{Found}
 use Rattle.network.specs.declared.Plmn.{Plmn}
@@ -38,19 +38,19 @@ module _ (x y : Line) where
   abbrev seen : Line
   seen = in_phase y x.phase
 
-  pub packet_goes : (packet : List ℕ) (p : Packet) → packet_taken x packet p ≡ onto (phased x) (packet_taken seen packet p)
+  pub packet_goes : (packet : List ℕ) (p : Option Packet) → packet_taken x packet p ≡ onto (phased x) (packet_taken seen packet p)
   unfolding packet_taken keeps goes in_phase
-  packet_goes packet (Start i) = refl
-  packet_goes packet (NasRequest i at n) = refl
-  packet_goes packet (Success i) = refl
-  packet_goes packet (NasResponse i p m at n) = refl
-  packet_goes packet (Stop i) = refl
-  packet_goes packet Other = refl
+  packet_goes packet None = refl
+  packet_goes packet (Some (Start i)) = refl
+  packet_goes packet (Some (NasRequest i at n)) = refl
+  packet_goes packet (Some (Success i)) = refl
+  packet_goes packet (Some (NasResponse i p m at n)) = refl
+  packet_goes packet (Some (Stop i)) = refl
 
   pub replied_goes : (parameters nas : List ℕ) (o : Option ℕ) → replied x parameters nas o ≡ onto (phased x) (replied seen parameters nas o)
   unfolding replied goes in_phase
-  replied_goes parameters nas none = refl
-  replied_goes parameters nas (some i) = refl
+  replied_goes parameters nas None = refl
+  replied_goes parameters nas (Some i) = refl
 
   pub finished_goes : (b : Bool) → finished x b ≡ onto (phased x) (finished seen b)
   unfolding finished keeps goes in_phase
@@ -71,17 +71,17 @@ module _ (x y : Line) where
 
   pub started_goes : (f : Facts) (t : List ℕ) (o : Option Settings) → started x f t o ≡ onto (phased x) (started held f t o)
   unfolding started goes in_phase
-  started_goes f t none = refl
-  started_goes f t (some s) = decided_goes f t (Selection.start s f)
+  started_goes f t None = refl
+  started_goes f t (Some s) = decided_goes f t (Selection.start s f)
 
   pub answered_goes : (o : Option Facts) (ps : Option (List Plmn)) (t : List ℕ) (s : Option Settings)
       → country_answered x o ps t s ≡ onto (phased x) (country_answered held o ps t s)
   unfolding country_answered goes in_phase
-  answered_goes none ps t s = refl
-  answered_goes (some f) ps t none = refl
-  answered_goes (some f) ps t (some s) = decided_goes f t (Selection.country s f ps)
+  answered_goes None ps t s = refl
+  answered_goes (Some f) ps t None = refl
+  answered_goes (Some f) ps t (Some s) = decided_goes f t (Selection.country s f ps)
 
   pub addressed_goes : (o : Option Facts) (list : List Address) → address_answered x o list ≡ onto (phased x) (address_answered held o list)
   unfolding address_answered goes in_phase with_holds
-  addressed_goes none list = refl
-  addressed_goes (some f) list = found_goes x held (choose f.version (held_addresses x.holds) list)
+  addressed_goes None list = refl
+  addressed_goes (Some f) list = found_goes x held (choose f.version (held_addresses x.holds) list)

@@ -7,7 +7,7 @@ use native.Mathlib.Omega.{arith}
 use borrow.Author.Tests.{eqb-true, eqb-false, eq-eqb, ne_eqb, lt-ltb}
 use Rattle.octets.specs.Part.{zeros}
 use Rattle.octets.specs.Refusal.{refusal}
-use Rattle.octets.specs.Row.{keep, only, is_some}
+use Rattle.octets.specs.Row.{keep, only}
 use Rattle.octets.specs.Search.{all_of}
 use Rattle.octets.proofs.Octets.{zeros_octets}
 use Rattle.octets.proofs.Search.{and_left, and_right, either}
@@ -90,7 +90,7 @@ module _ (l : List ℕ) (good : Good l) (p : ℕ) (x : Line) (r : Ready l (chang
   line_stays away = act_line l good (change p x) r q low ∙ rw (ne_eqb p q away)
 
   open_stays : is_open q (slots_of (applied (change p x) l)) ≡ is_open q (slots_of l)
-  unfolding open_after pair_in slot_line is_some
+  unfolding open_after pair_in slot_line
   open_stays = act_open l good (change p x) r q low ∙ either p q here there
     where
       here : p ≡ q → open_after (change p x) q (is_open q (slots_of l)) ≡ is_open q (slots_of l)

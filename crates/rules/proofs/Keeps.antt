@@ -1,4 +1,5 @@
 -- Every accepted event keeps a line sound.
+use Rattle.std.specs.Prelude.{is_some}
 use Prim.Native.Nat.{ℕ}
 use mathlib.Core.Bool.{Bool, true, false, not, ◌&&◌}
 use mathlib.Core.List.{List}
@@ -11,7 +12,6 @@ use Rattle.octets.specs.Laws.{below}
 use Rattle.octets.specs.Refusal.{refusal}
 use Rattle.octets.specs.Search.{all_of}
 use Rattle.octets.proofs.Search.{and_left, and_right, or_left, or_right}
-use Rattle.octets.specs.Row.{is_some}
 use Rattle.children.specs.Children.{has_spi}
 use Rattle.config.specs.Settings.{config_of}
 use Rattle.eap.specs.Packet.{read_packet}
@@ -59,7 +59,7 @@ module _ (p : Phase) where
   calm_between e = not_live (λ q. not (is_in Stage.idle q) && not (is_in Stage.live q)) (λ a. refl) p e
 
   calm_owed : is_some (owed (turn_in p)) ≡ true → is_in Stage.live p ≡ false
-  unfolding is_some owed turn_in
+  unfolding owed turn_in
   calm_owed e = not_live (λ q. is_some (owed (turn_in q))) (λ a. refl) p e
 
 -- each event that isn't refused leaves a valid line

@@ -1,8 +1,8 @@
 -- How long a listing is: a line of a sound table has at most 50 octets and each of its at most 8 children at most 20.
+use Rattle.std.specs.Prelude.{Option, None, Some}
 use Prim.Native.Nat.{ℕ, suc, ◌+◌, ◌*◌, ◌≤◌, ◌<◌}
 use mathlib.Core.Bool.{Bool, true, ◌&&◌}
 use mathlib.Core.List.{List, [], ◌∷◌}
-use mathlib.Core.Option.{Option, none, some}
 use mathlib.Core.Path.{◌≡◌, refl}
 use native.Mathlib.Omega.{arith}
 use lib.Dec.{leb}
@@ -45,8 +45,8 @@ word_short Stage.live = omega arith
 -- an address text has at most 32 octets
 address_short : (o : Option Address) → length (address_text o) ≤ 32
 unfolding address_text text
-address_short none = omega arith
-address_short (some a) = simp length_digit_text (omega (arith, width_most (version_of a)))
+address_short None = omega arith
+address_short (Some a) = simp length_digit_text (omega (arith, width_most (version_of a)))
 
 -- elements of at most w octets each, one after another
 joined_short : {A : Type 0} (g : A → List ℕ) (p : A → Bool) (w : ℕ) → ((x : A) → p x ≡ true → length (g x) ≤ w)
@@ -83,17 +83,17 @@ module _ (n : ℕ) (small : n < 10) where
 
 -- there is no line, or it is a sound one
 sound_if : Option Line → Bool
-sound_if none = true
-sound_if (some x) = line_sound x
+sound_if None = true
+sound_if (Some x) = line_sound x
 
 -- the lines from a number on, as long as each number has one digit
 lines_short : (n : ℕ) (xs : List (Option Line)) → n + length xs ≤ 10 → all_of sound_if xs ≡ true → length (list_from n xs) ≤ 210 * length xs
 unfolding list_from all_of sound_if
 lines_short n [] h e = omega arith
-lines_short n (none ∷ xs) h e =
+lines_short n (None ∷ xs) h e =
     let rest = lines_short (suc n) xs (omega arith) e in
     omega arith
-lines_short n (some x ∷ xs) h e =
+lines_short n (Some x ∷ xs) h e =
     let here = line_short n (omega arith) x (and_left (line_sound x) (all_of sound_if xs) e) in
     let rest = lines_short (suc n) xs (omega arith) (and_right (line_sound x) (all_of sound_if xs) e) in
     simp length-append (omega arith)
@@ -105,8 +105,8 @@ module _ (l : List ℕ) (sound : is_table l ≡ true) (tenant : ℕ) where
   own_sound i = go (line_at (pair_of tenant i) (slots_of l)) refl
     where
       go : (o : Option Line) → line_at (pair_of tenant i) (slots_of l) ≡ o → sound_if o ≡ true
-      go none e = refl
-      go (some x) e = found_sound l sound (pair_of tenant i) (omega arith) x e
+      go None e = refl
+      go (Some x) e = found_sound l sound (pair_of tenant i) (omega arith) x e
 
   pub listing_short : length (list_from 0 (row (own_line tenant (slots_of l)) 0 4)) ≤ 840
   listing_short =

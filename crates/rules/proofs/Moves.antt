@@ -1,7 +1,7 @@
 -- A line that isn't live goes into another phase.
+use Rattle.std.specs.Prelude.{Option, None, Some}
 use mathlib.Core.Bool.{true, false, ◌||◌}
 use mathlib.Core.List.{map}
-use mathlib.Core.Option.{Option, none, some}
 use mathlib.Core.Path.{◌≡◌, refl, sym, ap, ◌∙◌}
 use lib.Dec.{leb}
 use lib.ListN.{length}
@@ -27,7 +27,7 @@ use Rattle.rules.proofs.Valid.{ChildrenValid, PhaseValid, Valid}
 pub record Carries (f : Address → Phase) : Type 0 where
   pub fits : (a : Address) → phase_fits (f a) ≡ true
   pub storable : (a : Address) → address_storable a ≡ true → phase_storable (f a) ≡ true
-  pub same : (a : Address) → chosen (f a) ≡ some a
+  pub same : (a : Address) → chosen (f a) ≡ Some a
 
 -- the phases that keep nothing but an address
 pub init_carries : Carries Init
@@ -83,8 +83,8 @@ module _ (x : Line) (v : Valid x) (calm : is_in Stage.live x.phase ≡ false) wh
   module _ (f : Address → Phase) (c : Carries f) where
     carried : (o : Option Address) → chosen x.phase ≡ o → Valid (in_phase x (onward f o))
     unfolding onward
-    carried none e = rests
-    carried (some a) e =
+    carried None e = rests
+    carried (Some a) e =
         let storable = c.storable a (chosen_storable x.phase a e v.phase_valid.storable) in
         let room = or_true (is_in Stage.idle (f a)) (leb (length x.holds) 7) (room_left (chosen_busy x.phase a e)) in
         let free = ap (λ (o : Option Address). chosen_free o (map address_in x.holds)) (c.same a ∙ sym e) ∙ v.holds_valid.free in

@@ -1,8 +1,8 @@
 -- The `node` address of a configuration text fits its octets.
+use Rattle.std.specs.Prelude.{Option, None, Some}
 use Prim.Native.Nat.{ℕ, ◌*◌, ◌^◌, ◌<◌}
 use mathlib.Core.Bool.{Bool, true, false, cond, ◌&&◌}
 use mathlib.Core.List.{List, [], ◌∷◌, map}
-use mathlib.Core.Option.{Option, none, some}
 use mathlib.Core.Path.{◌≡◌, refl, ap, ◌∙◌, subst}
 use lib.Dec.{eqb}
 use lib.ListN.{length}
@@ -15,13 +15,12 @@ use Rattle.address.specs.Address.{width_of}
 use Rattle.addresses.specs.Laws.{address_storable}
 use Rattle.addresses.proofs.RoundTrip.{number_storable}
 use Rattle.config.specs.Lines.{entries, entries_from, last_entry}
-use Rattle.config.specs.Settings.{Settings, accepted, after_node, as_home, as_listed, as_node, config_of, first_node, from_home, is_end, name_place, node_or, plmn_in, rest, section, settle, with_home}
+use Rattle.config.specs.Settings.{Settings, accepted, after_node, as_home, as_listed, as_node, config_of, first_node, from_home, is_end, name_place, plmn_in, rest, section, settle, with_home}
 use Rattle.config.specs.declared.Node.{Node}
 use Rattle.config.specs.declared.Kind.TheVariants as Kind
-use Rattle.entry.specs.Entry.{bar_entry, entry_of, four, home_entry, line_entry, name_entry, node_entry, plmn_entry, three, address_entry, version_entry}
+use Rattle.entry.specs.Entry.{Entry, bar_entry, entry_of, four, home_entry, line_entry, name_entry, node_entry, plmn_entry, three, address_entry, version_entry}
 use Rattle.entry.specs.Field.{is_name, plmn_of, priority_of}
 use Rattle.entry.specs.Pieces.{pieces}
-use Rattle.entry.specs.declared.Entry.{Entry}
 use Rattle.network.specs.declared.Plmn.{Plmn}
 use Rattle.text.specs.Text.{read_digits, text}
 use Rattle.text.proofs.Texts.{read_below}
@@ -35,20 +34,20 @@ entry_storable (Entry.Preference p) = true
 entry_storable (Entry.Bar p) = true
 entry_storable Entry.Bad = true
 
-unfoldable pub node_storable : Node → Bool
-node_storable Node.None = true
-node_storable (Node.Name at n) = true
-node_storable (Node.Address a) = address_storable a
+unfoldable pub node_storable : Option Node → Bool
+node_storable None = true
+node_storable (Some (Node.Name at n)) = true
+node_storable (Some (Node.Address a)) = address_storable a
 
 unfoldable pub settings_storable : Option Settings → Bool
-settings_storable none = true
-settings_storable (some s) = node_storable s.node
+settings_storable None = true
+settings_storable (Some s) = node_storable s.node
 
 -- two digits an octet say a number of the version's width
 address_entry_lem : (version : ℕ) (l : List ℕ) (o : Option ℕ) → length l ≡ 2 * width_of version → read_digits 16 l ≡ o → entry_storable (address_entry version o) ≡ true
 unfolding address_entry entry_storable
-address_entry_lem version l none size e = refl
-address_entry_lem version l (some x) size e =
+address_entry_lem version l None size e = refl
+address_entry_lem version l (Some x) size e =
     number_storable version x (subst (λ (p : ℕ). x < p) (ap (λ (n : ℕ). 16 ^ n) size ∙ digit_pairs 16 (width_of version)) (read_below 16 x l e))
 
 version_entry_lem : (version : ℕ) (l : List ℕ) → entry_storable (version_entry version l) ≡ true
@@ -73,19 +72,19 @@ node_entry_lem kind l =
 -- entries of a PLMN keep no address
 home_entry_lem : (o : Option Plmn) → entry_storable (home_entry o) ≡ true
 unfolding home_entry entry_storable
-home_entry_lem none = refl
-home_entry_lem (some p) = refl
+home_entry_lem None = refl
+home_entry_lem (Some p) = refl
 
 bar_entry_lem : (o : Option Plmn) → entry_storable (bar_entry o) ≡ true
 unfolding bar_entry entry_storable
-bar_entry_lem none = refl
-bar_entry_lem (some p) = refl
+bar_entry_lem None = refl
+bar_entry_lem (Some p) = refl
 
 plmn_entry_lem : (o : Option Plmn) (r : Option ℕ) → entry_storable (plmn_entry o r) ≡ true
 unfolding plmn_entry entry_storable
-plmn_entry_lem none r = refl
-plmn_entry_lem (some p) none = refl
-plmn_entry_lem (some p) (some n) = refl
+plmn_entry_lem None r = refl
+plmn_entry_lem (Some p) None = refl
+plmn_entry_lem (Some p) (Some n) = refl
 
 -- every entry fits, whatever its fields
 three_fields : (w a b : List ℕ) → entry_storable (three w a b) ≡ true
@@ -123,8 +122,8 @@ every_entry (l ∷ []) = last_entry_lem l
 every_entry (l ∷ m ∷ ls) = and_true (entry_storable (line_entry l)) (all_of entry_storable (entries (m ∷ ls))) (by_fields (pieces 9 l)) (every_entry (m ∷ ls))
 
 -- `node` comes from an entry
-from_entry : (at : ℕ) (e : Entry) → entry_storable e ≡ true → node_storable (node_or (as_node at e)) ≡ true
-unfolding entry_storable node_storable node_or as_node
+from_entry : (at : ℕ) (e : Entry) → entry_storable e ≡ true → node_storable (as_node at e) ≡ true
+unfolding entry_storable node_storable as_node
 from_entry at (Entry.Home p) h = refl
 from_entry at (Entry.Name n) h = refl
 from_entry at (Entry.Node a) h = h
@@ -138,19 +137,19 @@ from_entries at [] h = refl
 from_entries at (e ∷ es) h = from_entry at e (and_left (entry_storable e) (all_of entry_storable es) h)
 
 -- the settings keep that `node`
-settled : (h : Plmn) (n : Node) (es : List Entry) → node_storable n ≡ true → settings_storable (settle h n es) ≡ true
+settled : (h : Plmn) (n : Option Node) (es : List Entry) → node_storable n ≡ true → settings_storable (settle h n es) ≡ true
 unfolding settle settings_storable
 settled h n es storable =
     let ps = section (as_listed Kind.Plmn) es in
     let behind = rest (as_listed Kind.Plmn) es in
     let bs = section (as_listed Kind.Bar) behind in
     cond_passes settings_storable (accepted (map plmn_in ps) && accepted (map plmn_in bs) && is_end (rest (as_listed Kind.Bar) behind))
-    (some (record { home = h; node = n; plmns = ps; bars = map plmn_in bs })) none storable refl
+    (Some (record { home = h; node = n; plmns = ps; bars = map plmn_in bs })) None storable refl
 
 behind_home : (o : Option Plmn) (at : ℕ) (es : List Entry) → all_of entry_storable es ≡ true → settings_storable (with_home o at es) ≡ true
 unfolding with_home settings_storable
-behind_home none at es h = refl
-behind_home (some p) at es h = settled p (first_node at es) (after_node at es) (from_entries at es h)
+behind_home None at es h = refl
+behind_home (Some p) at es h = settled p (first_node at es) (after_node at es) (from_entries at es h)
 
 whole_text : (at : ℕ) (es : List Entry) → all_of entry_storable es ≡ true → settings_storable (from_home at es) ≡ true
 unfolding from_home settings_storable all_of

@@ -1,14 +1,13 @@
 -- An accepted timed call follows a row of 'Life of a line'.
+use Rattle.std.specs.Prelude.{Option, None, Some, is_some}
 use Prim.Native.Nat.{ℕ, ◌≤◌}
 use mathlib.Core.Bool.{Bool, true, false, cond, not, ◌&&◌, false≢true}
 use mathlib.Core.List.{List, [], ◌∷◌}
-use mathlib.Core.Option.{Option, none, some}
 use mathlib.Core.Path.{◌≡◌, refl, sym, ap, ◌∙◌, subst}
 use native.Mathlib.Omega.{arith}
 use lib.Dec.{eqb, ltb}
 use lib.ListN.{get_or}
 use borrow.Author.Tests.{eqb-true, eqb-false, ltb-false, not-true, not-false}
-use Rattle.octets.specs.Row.{is_some}
 use Rattle.octets.proofs.Search.{and_left, and_right, either}
 use Rattle.address.specs.Address.{held_addresses}
 use Rattle.address.specs.declared.Address.{Address}
@@ -17,7 +16,7 @@ use Rattle.config.specs.Settings.{Settings, config_of}
 use Rattle.config.specs.declared.Node.{Node}
 use Rattle.eap.specs.Packet.{read_packet}
 use Rattle.eap.specs.declared.Packet.{Packet}
-use Rattle.eap.specs.declared.Packet.TheVariants.{Start, NasRequest, Success, NasResponse, Stop, Other}
+use Rattle.eap.specs.declared.Packet.TheVariants.{Start, NasRequest, Success, NasResponse, Stop}
 use Rattle.gateway.specs.Gateway.{choose}
 use Rattle.gateway.specs.declared.Found.{Found}
 use Rattle.lists.specs.Lists.{addresses_in, networks_in}
@@ -97,8 +96,8 @@ in_stage s p h =
 
 -- a phase by its turn
 data InTurn : Option Turn → Phase → Type 0 where
-  turned : (a : Address) (t : Turn) → InTurn (some t) (Eap a t)
-  unturned : (p : Phase) → InTurn none p
+  turned : (a : Address) (t : Turn) → InTurn (Some t) (Eap a t)
+  unturned : (p : Phase) → InTurn None p
 
 in_turn : (p : Phase) → InTurn (turn_in p) p
 unfolding turn_in
@@ -135,21 +134,21 @@ asks_country (Choice.Address a) = false
 
 asks_or : (o : Option Plmn) (c : Choice) → asks_country c ≡ false → asks_country (Selection.ask_or o c) ≡ false
 unfolding Selection.ask_or asks_country
-asks_or none c h = h
-asks_or (some p) c h = refl
+asks_or None c h = h
+asks_or (Some p) c h = refl
 
-asks_node : (home : Plmn) (n : Node) → asks_country (Selection.by_node home n) ≡ false
+asks_node : (home : Plmn) (n : Option Node) → asks_country (Selection.by_node home n) ≡ false
 unfolding Selection.by_node asks_country
-asks_node home (Node.Address a) = refl
-asks_node home (Node.Name at n) = refl
-asks_node home Node.None = refl
+asks_node home (Some (Node.Address a)) = refl
+asks_node home (Some (Node.Name at n)) = refl
+asks_node home None = refl
 
 -- the country answer asks for no country again
 asks_no_country : (s : Settings) (f : Facts) (ps : Option (List Plmn)) → asks_country (Selection.country s f ps) ≡ false
 unfolding Selection.country Selection.none_listed Selection.one_or_more Selection.at_home asks_country
-asks_no_country s f none = refl
-asks_no_country s f (some []) = asks_or (ranked s [] f.place) _ (asks_node s.home s.node)
-asks_no_country s f (some (p ∷ ps)) =
+asks_no_country s f None = refl
+asks_no_country s f (Some []) = asks_or (ranked s [] f.place) _ (asks_node s.home s.node)
+asks_no_country s f (Some (p ∷ ps)) =
     let listed = p ∷ ps in
     asks_or (Selection.if_listed s (Selection.registered s f) listed) _ (asks_or (ranked s listed f.place) _ (asks_or (unranked s listed) _ refl))
 
@@ -179,15 +178,15 @@ module _ (x : Line) where
 
   started_row : (g : StartNumbers) (text : List ℕ) (room : ℕ) (o : Option Settings) → is_some o ≡ true → {p : Phase} → Is Stage.idle p
       → Transition (start g text room) p (started x (facts_of g) text o).line.phase (started x (facts_of g) text o).action
-  unfolding started is_some
-  started_row g text room none h is_idle = absurd (false≢true h)
-  started_row g text room (some s) h is_idle = start_row g text room (Selection.start s (facts_of g))
+  unfolding started
+  started_row g text room None h is_idle = absurd (false≢true h)
+  started_row g text room (Some s) h is_idle = start_row g text room (Selection.start s (facts_of g))
 
   answered_row : (n : ℕ) (networks text : List ℕ) (room : ℕ) (ps : Option (List Plmn)) (o : Option Settings) → is_some o ≡ true → {p : Phase} → Is Stage.country p
       → Transition (country n networks text room) p (country_answered x (facts_in p) ps text o).line.phase (country_answered x (facts_in p) ps text o).action
-  unfolding country_answered facts_in is_some
-  answered_row n networks text room ps none h (is_country_lem f) = absurd (false≢true h)
-  answered_row n networks text room ps (some s) h (is_country_lem f) = country_decides (decided_row f text (Selection.country s f ps) (asks_no_country s f ps))
+  unfolding country_answered facts_in
+  answered_row n networks text room ps None h (is_country_lem f) = absurd (false≢true h)
+  answered_row n networks text room ps (Some s) h (is_country_lem f) = country_decides (decided_row f text (Selection.country s f ps) (asks_no_country s f ps))
 
   addressed_row : (list : List ℕ) (listed : List Address) {p : Phase} → Is Stage.name p
       → Transition (address list) p (address_answered x (facts_in p) listed).line.phase (address_answered x (facts_in p) listed).action
@@ -207,8 +206,8 @@ final_row : (good : ℕ) {p : Phase} → good ≡ 1 → Is Stage.sure p → Tran
 unfolding onward chosen
 final_row good q (is_sure a) = subst (λ (n : ℕ). Transition (final n) (Sure a) (Live a) Action.Live) (sym q) final_good
 
-bad_row : (good : ℕ) {p : Phase} → good ≡ 0 → Is Stage.sure p → Transition (final good) p Idle (Action.Released 0)
-bad_row good q (is_sure a) = subst (λ (n : ℕ). Transition (final n) (Sure a) Idle (Action.Released 0)) (sym q) final_bad
+bad_row : (good : ℕ) {p : Phase} → good ≡ 0 → Is Stage.sure p → Transition (final good) p Idle (Action.Released false)
+bad_row good q (is_sure a) = subst (λ (n : ℕ). Transition (final n) (Sure a) Idle (Action.Released false)) (sym q) final_bad
 
 made_row : (spi session : ℕ) {p : Phase} → Is Stage.live p → Transition (child_made spi session) p p Action.Nothing
 made_row spi session (is_live a) = child_added
@@ -216,45 +215,45 @@ made_row spi session (is_live a) = child_added
 taken_row : (spi : ℕ) {p : Phase} → Is Stage.live p → Transition (child_deleted spi) p p Action.Nothing
 taken_row spi (is_live a) = child_taken
 
-deleted_row : {p : Phase} → Is Stage.live p → Transition ike_delete p Idle (Action.Released 0)
+deleted_row : {p : Phase} → Is Stage.live p → Transition ike_delete p Idle (Action.Released false)
 deleted_row (is_live a) = ike_deleted
 
 -- EAP
 module _ (packet : List ℕ) {i : ℕ} where
-  begun_row : {p : Phase} → read_packet packet ≡ Start i → Is Stage.auth p → Transition (eap packet) p (onward (λ a. Eap a (First i)) (chosen p)) Action.AskNas
+  begun_row : {p : Phase} → read_packet packet ≡ Some (Start i) → Is Stage.auth p → Transition (eap packet) p (onward (λ a. Eap a (First i)) (chosen p)) Action.AskNas
   unfolding onward chosen
   begun_row r (is_auth a) = eap_started r
 
-  asked_row : {at n : ℕ} {o : Option Turn} {p : Phase} → read_packet packet ≡ NasRequest i at n → InTurn o p → is_some (last_reply o) ≡ true
+  asked_row : {at n : ℕ} {o : Option Turn} {p : Phase} → read_packet packet ≡ Some (NasRequest i at n) → InTurn o p → is_some (last_reply o) ≡ true
       → Transition (eap packet) p (onward (λ a. Eap a (Owed i)) (chosen p)) (Action.HandUp at n)
-  unfolding onward chosen last_reply is_some
+  unfolding onward chosen last_reply
   asked_row r (unturned q) h = absurd (false≢true h)
   asked_row r (turned a (First j)) h = absurd (false≢true h)
   asked_row r (turned a (Owed j)) h = absurd (false≢true h)
   asked_row r (turned a (Answered j)) h = eap_asked r
 
-  succeeded_row : {o : Option Turn} {p : Phase} → read_packet packet ≡ Success i → InTurn o p → is_identifier i (last_reply o) ≡ true
+  succeeded_row : {o : Option Turn} {p : Phase} → read_packet packet ≡ Some (Success i) → InTurn o p → is_identifier i (last_reply o) ≡ true
       → Transition (eap packet) p (onward Sure (chosen p)) Action.SendAuth
   unfolding onward chosen last_reply is_identifier
   succeeded_row r (unturned q) h = absurd (false≢true h)
   succeeded_row r (turned a (First j)) h = absurd (false≢true h)
   succeeded_row r (turned a (Owed j)) h = absurd (false≢true h)
-  succeeded_row r (turned a (Answered j)) h = eap_succeeded (r ∙ ap Success (eqb-true i j h))
+  succeeded_row r (turned a (Answered j)) h = eap_succeeded (r ∙ ap (λ (k : ℕ). Some (Success k)) (eqb-true i j h))
 
-packet_row : (x : Line) (packet : List ℕ) (q : Packet) → read_packet packet ≡ q → is_due q x.phase ≡ true
+packet_row : (x : Line) (packet : List ℕ) (q : Option Packet) → read_packet packet ≡ q → is_due q x.phase ≡ true
     → Transition (eap packet) x.phase (packet_taken x packet q).line.phase (packet_taken x packet q).action
 unfolding packet_taken keeps goes in_phase is_due
-packet_row x packet (Start i) r h = begun_row packet r (in_stage Stage.auth x.phase h)
-packet_row x packet (NasRequest i at n) r h = asked_row packet r (in_turn x.phase) h
-packet_row x packet (Success i) r h = succeeded_row packet r (in_turn x.phase) h
-packet_row x packet (NasResponse i p m at n) r h = absurd (false≢true h)
-packet_row x packet (Stop i) r h = absurd (false≢true h)
-packet_row x packet Other r h = absurd (false≢true h)
+packet_row x packet None r h = absurd (false≢true h)
+packet_row x packet (Some (Start i)) r h = begun_row packet r (in_stage Stage.auth x.phase h)
+packet_row x packet (Some (NasRequest i at n)) r h = asked_row packet r (in_turn x.phase) h
+packet_row x packet (Some (Success i)) r h = succeeded_row packet r (in_turn x.phase) h
+packet_row x packet (Some (NasResponse i p m at n)) r h = absurd (false≢true h)
+packet_row x packet (Some (Stop i)) r h = absurd (false≢true h)
 
 module _ (parameters nas : List ℕ) (room : ℕ) (x : Line) where
   replied_row : {o : Option Turn} {p : Phase} → x.phase ≡ p → InTurn o p → is_some (owed o) ≡ true
       → Transition (reply parameters nas room) p (replied x parameters nas (owed o)).line.phase (replied x parameters nas (owed o)).action
-  unfolding replied in_phase onward chosen owed is_some
+  unfolding replied in_phase onward chosen owed
   replied_row e (unturned q) h = absurd (false≢true h)
   replied_row e (turned a (First i)) h = rw e first_replied
   replied_row e (turned a (Owed i)) h = rw e later_replied
@@ -310,7 +309,7 @@ decided_ended asks_built = refl
 decided_ended (goes_through c) = chosen_ended c
 decided_ended stops = refl
 
-underway_ended : {p : Phase} {n : ℕ} → Underway p n → n ≡ cond (is_in Stage.eap p) 1 0
+underway_ended : {p : Phase} {b : Bool} → Underway p b → ◌≡◌ {A = ℕ} (cond b 1 0) (cond (is_in Stage.eap p) 1 0)
 unfolding is_in
 underway_ended in_auth = refl
 underway_ended in_eap_lem = refl

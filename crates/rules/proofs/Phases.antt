@@ -1,11 +1,10 @@
 -- What a phase is by a test that it passes, and what its data are.
+use Rattle.std.specs.Prelude.{Some, is_some}
 use Prim.Native.Nat.{ℕ}
 use mathlib.Core.Bool.{Bool, true, false, false≢true}
-use mathlib.Core.Option.{some}
 use mathlib.Core.Path.{◌≡◌, refl, sym, ap, ◌∙◌}
 use lib.Dec.{ltb}
 use Rattle.octets.proofs.Search.{and_left, and_right}
-use Rattle.octets.specs.Row.{is_some}
 use Rattle.address.specs.declared.Address.{Address}
 use Rattle.addresses.specs.Laws.{address_storable}
 use Rattle.phase.specs.Chosen.{chosen}
@@ -48,14 +47,14 @@ not_idle t h (Sure a) e = refl
 not_idle t h (Live a) e = refl
 
 -- the chosen address of a phase
-module _ (p : Phase) (a : Address) (e : chosen p ≡ some a) where
+module _ (p : Phase) (a : Address) (e : chosen p ≡ Some a) where
   -- only a line that isn't idle has one
   pub chosen_busy : is_in Stage.idle p ≡ false
-  unfolding chosen is_some
+  unfolding chosen
   chosen_busy = not_idle (λ q. is_some (chosen q)) refl p (ap is_some e)
 
 -- the chosen address fits its octets
-pub chosen_storable : (p : Phase) (a : Address) → chosen p ≡ some a → phase_storable p ≡ true → address_storable a ≡ true
+pub chosen_storable : (p : Phase) (a : Address) → chosen p ≡ Some a → phase_storable p ≡ true → address_storable a ≡ true
 unfolding chosen phase_storable
 chosen_storable Idle a e h = cc
 chosen_storable (Country f) a e h = cc
@@ -68,12 +67,12 @@ chosen_storable (Sure b) a e h = cc
 chosen_storable (Live b) a e h = cc
 
 -- only a line that isn't idle keeps place facts
-pub facts_busy : (p : Phase) (f : Facts) → facts_in p ≡ some f → is_in Stage.idle p ≡ false
-unfolding facts_in is_some
+pub facts_busy : (p : Phase) (f : Facts) → facts_in p ≡ Some f → is_in Stage.idle p ≡ false
+unfolding facts_in
 facts_busy p f e = not_idle (λ q. is_some (facts_in q)) refl p (ap is_some e)
 
 -- the place facts of a phase are in their ranges
-pub facts_fit_lem : (p : Phase) (f : Facts) → facts_in p ≡ some f → phase_fits p ≡ true → facts_fit f ≡ true
+pub facts_fit_lem : (p : Phase) (f : Facts) → facts_in p ≡ Some f → phase_fits p ≡ true → facts_fit f ≡ true
 unfolding facts_in phase_fits
 facts_fit_lem Idle f e h = cc
 facts_fit_lem (Country g) f e h = let k = and_left (facts_fit g) (is_abroad g.place) h in cc
@@ -86,13 +85,13 @@ facts_fit_lem (Sure a) f e h = cc
 facts_fit_lem (Live a) f e h = cc
 
 -- an identifier that is owed is one octet
-owed_storable : (t : Turn) (i : ℕ) → owed (some t) ≡ some i → turn_storable t ≡ true → ltb i 256 ≡ true
+owed_storable : (t : Turn) (i : ℕ) → owed (Some t) ≡ Some i → turn_storable t ≡ true → ltb i 256 ≡ true
 unfolding owed turn_storable
 owed_storable (First j) i e h = cc
 owed_storable (Owed j) i e h = cc
 owed_storable (Answered j) i e h = cc
 
-pub identifier_storable : (p : Phase) (i : ℕ) → owed (turn_in p) ≡ some i → phase_storable p ≡ true → ltb i 256 ≡ true
+pub identifier_storable : (p : Phase) (i : ℕ) → owed (turn_in p) ≡ Some i → phase_storable p ≡ true → ltb i 256 ≡ true
 unfolding turn_in owed phase_storable
 identifier_storable Idle i e h = cc
 identifier_storable (Country f) i e h = cc

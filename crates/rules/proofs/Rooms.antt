@@ -1,8 +1,8 @@
 -- The answer buffer has the lent length after every call.
+use Rattle.std.specs.Prelude.{Option, None, Some}
 use Prim.Native.Nat.{ℕ, ◌≤◌}
 use mathlib.Core.Bool.{Bool, true, false}
 use mathlib.Core.List.{List, [], ◌∷◌}
-use mathlib.Core.Option.{Option, none, some}
 use mathlib.Core.Path.{◌≡◌, refl, sym, ap, ◌∙◌}
 use native.Mathlib.Omega.{arith}
 use lib.Dec.{eqb, ltb}
@@ -18,7 +18,7 @@ use Rattle.address.specs.Address.{held_addresses}
 use Rattle.config.specs.Settings.{Settings, config_of}
 use Rattle.eap.specs.Packet.{read_packet}
 use Rattle.eap.specs.declared.Packet.{Packet}
-use Rattle.eap.specs.declared.Packet.TheVariants.{Start, NasRequest, Success, NasResponse, Stop, Other}
+use Rattle.eap.specs.declared.Packet.TheVariants.{Start, NasRequest, Success, NasResponse, Stop}
 use Rattle.gateway.specs.Gateway.{choose}
 use Rattle.gateway.specs.declared.Found.{Found}
 use Rattle.lists.specs.Lists.{addresses_in, networks_in}
@@ -71,28 +71,28 @@ module _ (x : Line) where
 
   started_short : (f : Facts) (t : List ℕ) (o : Option Settings) → length (started x f t o).written ≤ 52
   unfolding started goes
-  started_short f t none = omega arith
-  started_short f t (some s) = decided_short f t (Selection.start s f)
+  started_short f t None = omega arith
+  started_short f t (Some s) = decided_short f t (Selection.start s f)
 
   answered_short : (o : Option Facts) (ps : Option (List Plmn)) (t : List ℕ) (s : Option Settings) → length (country_answered x o ps t s).written ≤ 52
   unfolding country_answered goes
-  answered_short none ps t s = omega arith
-  answered_short (some f) ps t none = omega arith
-  answered_short (some f) ps t (some s) = decided_short f t (Selection.country s f ps)
+  answered_short None ps t s = omega arith
+  answered_short (Some f) ps t None = omega arith
+  answered_short (Some f) ps t (Some s) = decided_short f t (Selection.country s f ps)
 
   addressed_written : (o : Option Facts) (list : List ℕ) → (address_answered x o (addresses_in list)).written ≡ []
   unfolding address_answered goes
-  addressed_written none list = refl
-  addressed_written (some f) list = found_written (choose f.version (held_addresses x.holds) (addresses_in list))
+  addressed_written None list = refl
+  addressed_written (Some f) list = found_written (choose f.version (held_addresses x.holds) (addresses_in list))
 
-  taken_written : (packet : List ℕ) (p : Packet) → (packet_taken x packet p).written ≡ []
+  taken_written : (packet : List ℕ) (p : Option Packet) → (packet_taken x packet p).written ≡ []
   unfolding packet_taken keeps goes
-  taken_written packet (Start i) = refl
-  taken_written packet (NasRequest i at n) = refl
-  taken_written packet (Success i) = refl
-  taken_written packet (NasResponse i p m at n) = refl
-  taken_written packet (Stop i) = refl
-  taken_written packet Other = refl
+  taken_written packet None = refl
+  taken_written packet (Some (Start i)) = refl
+  taken_written packet (Some (NasRequest i at n)) = refl
+  taken_written packet (Some (Success i)) = refl
+  taken_written packet (Some (NasResponse i p m at n)) = refl
+  taken_written packet (Some (Stop i)) = refl
 
   finished_written : (b : Bool) → (finished x b).written ≡ []
   unfolding finished keeps goes
@@ -102,8 +102,8 @@ module _ (x : Line) where
   -- a response to AN-parameters and NAS in their ranges has at most 3,090 octets
   replied_short : (parameters nas : List ℕ) → lent_out_of_range parameters nas ≡ false → (o : Option ℕ) → length (replied x parameters nas o).written ≤ reply_room
   unfolding replied goes
-  replied_short parameters nas fit none = omega arith
-  replied_short parameters nas fit (some i) =
+  replied_short parameters nas fit None = omega arith
+  replied_short parameters nas fit (Some i) =
       let fits = in_range_lem parameters nas fit in
       rw (length_response i parameters nas) (omega arith)
 

@@ -1,8 +1,8 @@
 -- What a call leaves of a sound table.
+use Rattle.std.specs.Prelude.{Option, None, Some}
 use Prim.Native.Nat.{ℕ, zero, suc, ◌≤◌}
 use mathlib.Core.Bool.{Bool, true, cond}
 use mathlib.Core.List.{List}
-use mathlib.Core.Option.{Option, none, some}
 use mathlib.Core.Path.{◌≡◌, refl, sym, ap, ◌∙◌, subst}
 use native.Mathlib.Nat.{zero-add}
 use native.Mathlib.Omega.{arith}
@@ -98,14 +98,14 @@ module _ (tenant line : ℕ) (l : List ℕ) (good : Good l) (e : number_given (o
   opens : number o l ≡ 0
   opens = sym (given_is o l) ∙ e
 
-  pub taken_over_clean : line_in (run o l).table tenant line ≡ some fresh
+  pub taken_over_clean : line_in (run o l).table tenant line ≡ Some fresh
   unfolding step_of step line_after pair_in slot_line is_octets lent_octets all_of pair_of
   taken_over_clean =
       let p = pair_of tenant line in
       let r = ready o l refl good opens in
       ap (λ (x : Result). line_at p (slots_of x.table)) (accepted o l opens)
       ∙ act_line l good (step_of o l).act r p (omega arith)
-      ∙ ap (λ (b : Bool). cond b (some fresh) (cond (eqb 0 p) none (line_at p (slots_of l)))) (eq-eqb p p refl)
+      ∙ ap (λ (b : Bool). cond b (Some fresh) (cond (eqb 0 p) None (line_at p (slots_of l)))) (eq-eqb p p refl)
 
   -- the tenant's other lines stay
   others_stay : (k : ℕ) → (k ≡ line → ⊥) → own_line tenant (slots_of (run o l).table) k ≡ own_line tenant (slots_of l) k
@@ -129,10 +129,10 @@ listed_lines tenant room l sound small long = rw (sound, le-ltb 15 tenant small,
 
 pub taken_over_listed : (tenant line room : ℕ) (l : List ℕ) → Good l → number_given (opening tenant line) l ≡ 0 → 1024 ≤ room
     → (run (listing tenant room) (run (opening tenant line) l).table).answer.buffer
-    ≡ padded room (list_from 0 (set (row (own_line tenant (slots_of l)) 0 4) line (some fresh)))
+    ≡ padded room (list_from 0 (set (row (own_line tenant (slots_of l)) 0 4) line (Some fresh)))
 unfolding own_line is_octets lent_octets all_of
 taken_over_listed tenant line room l good e long =
     let t = (run (opening tenant line) l).table in
     listed_lines tenant room t (run_sound (opening tenant line) l refl good).sound (opened_tenant tenant line l e) long
     ∙ ap (λ (xs : List (Option Line)). padded room (list_from 0 xs))
-    (row_set (own_line tenant (slots_of l)) (own_line tenant (slots_of t)) line (some fresh) (others_stay tenant line l good e) (taken_over_clean tenant line l good e) 0 4 line (zero-add line))
+    (row_set (own_line tenant (slots_of l)) (own_line tenant (slots_of t)) line (Some fresh) (others_stay tenant line l good e) (taken_over_clean tenant line l good e) 0 4 line (zero-add line))

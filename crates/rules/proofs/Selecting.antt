@@ -1,8 +1,8 @@
 -- Choosing a gateway: what start, the country answer and the address answer come to.
+use Rattle.std.specs.Prelude.{Option, None, Some}
 use Prim.Native.Nat.{ℕ, suc, ◌*◌, ◌/◌}
 use mathlib.Core.Bool.{Bool, true, false, cond, not, ◌&&◌}
 use mathlib.Core.List.{List, [], ◌∷◌}
-use mathlib.Core.Option.{Option, none, some}
 use mathlib.Core.Path.{◌≡◌, refl, ap, ◌∙◌}
 use native.Mathlib.Nat.{div-mul-le_self}
 use native.Mathlib.Omega.{arith}
@@ -21,7 +21,6 @@ use Rattle.config.specs.Settings.{Settings}
 use Rattle.config.specs.declared.Node.{Node}
 use Rattle.gateway.specs.Gateway.{choose, found_at}
 use Rattle.lists.specs.Lists.{address_at, addresses_in}
-use Rattle.network.specs.declared.MaybePlmn.TheVariants.{Is, None}
 use Rattle.network.specs.declared.Plmn.{Plmn}
 use Rattle.phase.specs.Chosen.{chosen}
 use Rattle.phase.specs.Facts.{facts_fit, place_fits, registered_fits}
@@ -47,6 +46,7 @@ use Rattle.rules.proofs.Moves.{moves, rests, room_left}
 use Rattle.rules.proofs.Nodes.{node_storable, settings_storable}
 use Rattle.rules.proofs.Phases.{facts_busy, facts_fit_lem}
 use Rattle.rules.proofs.Valid.{Valid}
+use Rattle.selection.specs.declared.Stop.TheVariants as At
 
 -- a choice that leaves a valid line with these place facts
 allowed : Facts → Choice → Bool
@@ -59,11 +59,11 @@ allowed f (Choice.Address a) = address_storable a
 -- place facts in their ranges allow what selection chooses
 module _ (f : Facts) (s : Settings) (node : node_storable s.node ≡ true) where
   -- S2: a `node` address, a name or the home PLMN
-  by_node_lem : (n : Node) → node_storable n ≡ true → facts_fit f ≡ true → allowed f (Selection.by_node s.home n) ≡ true
+  by_node_lem : (n : Option Node) → node_storable n ≡ true → facts_fit f ≡ true → allowed f (Selection.by_node s.home n) ≡ true
   unfolding Selection.by_node allowed node_storable
-  by_node_lem Node.None h k = k
-  by_node_lem (Node.Name at n) h k = k
-  by_node_lem (Node.Address a) h k = h
+  by_node_lem None h k = k
+  by_node_lem (Some (Node.Name at n)) h k = k
+  by_node_lem (Some (Node.Address a)) h k = h
 
   at_home_lem : facts_fit f ≡ true → allowed f (Selection.at_home s) ≡ true
   unfolding Selection.at_home
@@ -72,26 +72,26 @@ module _ (f : Facts) (s : Settings) (node : node_storable s.node ≡ true) where
   -- S3 and S4: a registered PLMN or the visited country, which only a place abroad has
   abroad : (r : Option Plmn) (mcc : ℕ) → facts_fit f ≡ true → is_abroad f.place ≡ true → allowed f (Selection.abroad s r mcc) ≡ true
   unfolding Selection.abroad allowed
-  abroad none mcc k e = and_true (facts_fit f) (is_abroad f.place) k e
-  abroad (some p) mcc k e =
+  abroad None mcc k e = and_true (facts_fit f) (is_abroad f.place) k e
+  abroad (Some p) mcc k e =
       cond_passes (allowed f) (Selection.direct s p) (Choice.Network p) (Choice.Country mcc) k (and_true (facts_fit f) (is_abroad f.place) k e)
 
   ask_or_lem : (o : Option Plmn) (c : Choice) → facts_fit f ≡ true → allowed f c ≡ true → allowed f (Selection.ask_or o c) ≡ true
   unfolding Selection.ask_or allowed
-  ask_or_lem none c k h = h
-  ask_or_lem (some p) c k h = k
+  ask_or_lem None c k h = h
+  ask_or_lem (Some p) c k h = k
 
   -- S4: the country answer never asks for the country again
   country_allowed : facts_fit f ≡ true → (ps : Option (List Plmn)) → allowed f (Selection.country s f ps) ≡ true
   unfolding Selection.country Selection.none_listed Selection.one_or_more allowed
-  country_allowed k none = refl
-  country_allowed k (some []) = ask_or_lem (ranked s [] f.place) (Selection.at_home s) k (at_home_lem k)
-  country_allowed k (some (p ∷ ps)) =
+  country_allowed k None = refl
+  country_allowed k (Some []) = ask_or_lem (ranked s [] f.place) (Selection.at_home s) k (at_home_lem k)
+  country_allowed k (Some (p ∷ ps)) =
       let third = unranked s (p ∷ ps) in
       let second = ranked s (p ∷ ps) f.place in
       let first = Selection.if_listed s (Selection.registered s f) (p ∷ ps) in
-      let last = Selection.ask_or third (Choice.Stop 3) in
-      ask_or_lem first (Selection.ask_or second last) k (ask_or_lem second last k (ask_or_lem third (Choice.Stop 3) k refl))
+      let last = Selection.ask_or third (Choice.Stop At.Barred) in
+      ask_or_lem first (Selection.ask_or second last) k (ask_or_lem second last k (ask_or_lem third (Choice.Stop At.Barred) k refl))
 
 -- a place in its range, or none that is known
 known : Place → Bool
@@ -117,7 +117,7 @@ given_ranged g h =
           cond_passes known (eqb g.place 1) Home (cond (eqb g.place 2) (Abroad g.mcc) Unknown) refl
           (cond_passes known (eqb g.place 2) (Abroad g.mcc) Unknown mcc refl);
       registered_fits_lem =
-          cond_passes registered_fits (eqb g.registered 1) (Is (record { mcc = g.registered_mcc; mnc = g.registered_mnc })) None
+          cond_passes registered_fits (eqb g.registered 1) (Some (record { mcc = g.registered_mcc; mnc = g.registered_mnc })) None
           (and_true (leb g.registered_mcc 999) (leb g.registered_mnc 999) first second) refl;
       version_fits = search (and_left, and_right) depth 9;
     }
@@ -180,24 +180,24 @@ module _ (x : Line) (v : Valid x) (calm : is_in Stage.live x.phase ≡ false) wh
     pub started_valid : (g : StartNumbers) → start_numbers_fit g ≡ true → (text : List ℕ) (o : Option Settings) → settings_storable o ≡ true
         → Valid (started x (facts_of g) text o).line
     unfolding started goes settings_storable
-    started_valid g fits text none h = rests x v calm
-    started_valid g fits text (some s) h =
+    started_valid g fits text None h = rests x v calm
+    started_valid g fits text (Some s) h =
         decided_valid (facts_of g) text (Selection.start s (facts_of g)) (start_allowed (facts_of g) (given_ranged g fits) s h)
 
   -- the country answer, where the line keeps place facts
   pub answered_valid : (o : Option Facts) → facts_in x.phase ≡ o → (ps : Option (List Plmn)) (text : List ℕ) (s : Option Settings) → settings_storable s ≡ true
       → Valid (country_answered x o ps text s).line
   unfolding country_answered goes settings_storable
-  answered_valid none e ps text s h = rests x v calm
-  answered_valid (some f) e ps text none h = rests x v calm
-  answered_valid (some f) e ps text (some s) h =
+  answered_valid None e ps text s h = rests x v calm
+  answered_valid (Some f) e ps text None h = rests x v calm
+  answered_valid (Some f) e ps text (Some s) h =
       decided_valid (room_left x v calm (facts_busy x.phase f e)) f text (Selection.country s f ps) (country_allowed f s h (facts_fit_lem x.phase f e v.phase_valid.fits) ps)
 
   -- the address answer
   pub addressed_valid : (o : Option Facts) → facts_in x.phase ≡ o → (l : List Address) → all_of address_storable l ≡ true → Valid (address_answered x o l).line
   unfolding address_answered goes
-  addressed_valid none e l h = rests x v calm
-  addressed_valid (some f) e l h = choose_valid (room_left x v calm (facts_busy x.phase f e)) f.version l h
+  addressed_valid None e l h = rests x v calm
+  addressed_valid (Some f) e l h = choose_valid (room_left x v calm (facts_busy x.phase f e)) f.version l h
 
 -- every address of a lent list fits its octets
 pub addresses_storable : (l : List ℕ) → all_of (below 256) l ≡ true → all_of address_storable (addresses_in l) ≡ true

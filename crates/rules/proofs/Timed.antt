@@ -1,8 +1,8 @@
 -- What an accepted timed call on a line answers and leaves.
+use Rattle.std.specs.Prelude.{Option, None, Some}
 use Prim.Native.Nat.{ℕ, ◌≤◌}
 use mathlib.Core.Bool.{Bool, false, cond}
 use mathlib.Core.List.{List, [], ◌∷◌}
-use mathlib.Core.Option.{Option, none, some}
 use mathlib.Core.Path.{◌≡◌, refl, sym, ap, ◌∙◌, subst}
 use native.Mathlib.Omega.{arith}
 use lib.Dec.{eqb, ltb}
@@ -58,7 +58,7 @@ module _ (tenant line time : ℕ) (e : Event) (l : List ℕ) (x : Line) (t : Tim
   no_refusal : NoRow c v
   no_refusal = no_row c v no_number
 
-  own_seen : line_seen v line ≡ some x
+  own_seen : line_seen v line ≡ Some x
   unfolding view_in tenant_of
   own_seen = own_is tenant line (timed_pair tenant line time e v no_refusal) (slots_of l) (is_table l) ∙ t.stands
 
@@ -90,16 +90,16 @@ module _ (tenant line time : ℕ) (e : Event) (l : List ℕ) (x : Line) (t : Tim
   unfolding timed_step
   answer_is = ap (λ (r : Result). r.answer) (accepted c l no_number) ∙ ap (λ (s : Step). s.answer) line_step
 
-  line_is : line_in (run c l).table tenant line ≡ some o.line
+  line_is : line_in (run c l).table tenant line ≡ Some o.line
   unfolding timed_step line_after pair_in slot_line pair_of
   line_is =
       let p = pair_of tenant line in
       ap (λ (r : Result). line_at p (slots_of r.table)) (accepted c l no_number)
       ∙ act_line l t.good (step_of c l).act (ready c l t.octets t.good no_number) p (omega arith)
       ∙ ap (λ (s : Step). line_after s.act p (line_at p (slots_of l))) line_step
-      ∙ ap (λ (b : Bool). cond b (some o.line) (cond (eqb p p) none (line_at p (slots_of l)))) (eq-eqb p p refl)
+      ∙ ap (λ (b : Bool). cond b (Some o.line) (cond (eqb p p) None (line_at p (slots_of l)))) (eq-eqb p p refl)
 
-  pub timed_run : ((run c l).answer ≡ answer_of e o) × (line_in (run c l).table tenant line ≡ some o.line)
+  pub timed_run : ((run c l).answer ≡ answer_of e o) × (line_in (run c l).table tenant line ≡ Some o.line)
   timed_run = (answer_is, line_is)
 
 -- where an outcome's answer says that selection stopped
@@ -123,7 +123,7 @@ unfolding passed_said answer_of gateway_found found_at goes numbers_of twelve
 found_passed e x k [] = refl
 found_passed e x k (a ∷ rest) = refl
 
-module _ (tenant line time : ℕ) (l : List ℕ) (x : Line) (f : Facts) (facts : facts_in x.phase ≡ some f) where
+module _ (tenant line time : ℕ) (l : List ℕ) (x : Line) (f : Facts) (facts : facts_in x.phase ≡ Some f) where
   pub passed_exactly : (list : List ℕ) → Timed tenant line time (address list) l x
       → passed_said (run (timed tenant line time (address list)) l).answer ≡ place (permitted f.version (held_addresses (current time x).holds)) (addresses_in list)
   unfolding outcome address_answered current choose
@@ -139,7 +139,7 @@ carried : {ends : ℕ → Type 0} {said stop : Option ℕ} → said ≡ stop →
 carried {ends} q h = subst (λ (o : Option ℕ). Exactly ends o) (sym q) h
 
 module _ (tenant line time : ℕ) (l : List ℕ) (x : Line) (s : Settings) where
-  pub stops_start : (g : StartNumbers) (text : List ℕ) (room : ℕ) → Timed tenant line time (start g text room) l x → config_of text ≡ some s
+  pub stops_start : (g : StartNumbers) (text : List ℕ) (room : ℕ) → Timed tenant line time (start g text room) l x → config_of text ≡ Some s
       → Exactly (Ends s g.version (held_addresses (current time x).holds) (start_reached s (facts_of g).place)) (stop_said (run (timed tenant line time (start g text room)) l).answer)
   unfolding outcome started facts_of
   stops_start g text room t q =
@@ -149,8 +149,8 @@ module _ (tenant line time : ℕ) (l : List ℕ) (x : Line) (s : Settings) where
       (ap stop_said (timed_run tenant line time e l x t).0 ∙ ap (λ (o : Option Settings). stop_said (answer_of e (started y (facts_of g) text o))) q ∙ decided_stop e y (facts_of g) text (Selection.start s (facts_of g)))
       (stops_exactly.at_start s (facts_of g) (held_addresses y.holds))
 
-  module _ (f : Facts) (facts : facts_in x.phase ≡ some f) where
-    pub stops_country : (replied : ℕ) (networks text : List ℕ) (room : ℕ) → Timed tenant line time (country replied networks text room) l x → config_of text ≡ some s
+  module _ (f : Facts) (facts : facts_in x.phase ≡ Some f) where
+    pub stops_country : (replied : ℕ) (networks text : List ℕ) (room : ℕ) → Timed tenant line time (country replied networks text room) l x → config_of text ≡ Some s
         → Exactly (Ends s f.version (held_addresses (current time x).holds) (country_reached s f.place (Selection.country_reply (eqb replied 1) (networks_in networks))))
         (stop_said (run (timed tenant line time (country replied networks text room)) l).answer)
     unfolding outcome country_answered current
@@ -161,7 +161,7 @@ module _ (tenant line time : ℕ) (l : List ℕ) (x : Line) (s : Settings) where
         carried
         (ap stop_said (timed_run tenant line time e l x t).0
         ∙ ap (λ (o : Option Facts). stop_said (answer_of e (country_answered y o ps text (config_of text)))) facts
-        ∙ ap (λ (o : Option Settings). stop_said (answer_of e (country_answered y (some f) ps text o))) q
+        ∙ ap (λ (o : Option Settings). stop_said (answer_of e (country_answered y (Some f) ps text o))) q
         ∙ decided_stop e y f text (Selection.country s f ps))
         (stops_exactly.at_country s f (held_addresses y.holds) ps)
 

@@ -1,8 +1,8 @@
 -- Children stand only on a live line; a child made adds one, a child deleted takes one.
+use Rattle.std.specs.Prelude.{Some}
 use Prim.Native.Nat.{ℕ, suc, ◌≤◌}
 use mathlib.Core.Bool.{Bool, true, false, not, ◌||◌, false≢true}
 use mathlib.Core.List.{List, [], ◌∷◌, ◌++◌}
-use mathlib.Core.Option.{some}
 use mathlib.Core.Path.{◌≡◌, refl, ap, ◌∙◌}
 use native.Mathlib.Omega.{arith}
 use lib.Dec.{leb}
@@ -31,13 +31,13 @@ none_left [] h = refl
 none_left (c ∷ cs) h = absurd (omega arith)
 
 -- the line of an open pair of a sound table is valid
-line_valid : (tenant line : ℕ) (l : List ℕ) (x : Line) → Good l → line_in l tenant line ≡ some x → Valid x
+line_valid : (tenant line : ℕ) (l : List ℕ) (x : Line) → Good l → line_in l tenant line ≡ Some x → Valid x
 unfolding pair_of
 line_valid tenant line l x good e =
     let p = pair_of tenant line in
     valid_of x (found_sound l good.sound p (omega arith) x e) (found_storable l good.sound p (omega arith) x e good.octets)
 
-pub tunnels_live : (tenant line : ℕ) (l : List ℕ) (x : Line) → Good l → line_in l tenant line ≡ some x → is_in Stage.live x.phase ≡ false → x.children ≡ []
+pub tunnels_live : (tenant line : ℕ) (l : List ℕ) (x : Line) → Good l → line_in l tenant line ≡ Some x → is_in Stage.live x.phase ≡ false → x.children ≡ []
 tunnels_live tenant line l x good e h =
     let few = leb (length x.children) 0 in
     none_left x.children (leb-true (length x.children) 0 (or_other (is_in Stage.live x.phase) few (line_valid tenant line l x good e).children_valid.on_live h))
@@ -67,14 +67,14 @@ module _ (tenant line time spi : ℕ) (l : List ℕ) (x : Line) where
   pub tunnels_made : (session : ℕ) → Timed tenant line time (child_made spi session) l x
       → (is_in Stage.live x.phase ≡ true)
       × (line_in (run (timed tenant line time (child_made spi session)) l).table tenant line
-      ≡ some (with_children (current time x) (x.children ++ record { spi = spi; session = session } ∷ [])))
+      ≡ Some (with_children (current time x) (x.children ++ record { spi = spi; session = session } ∷ [])))
   unfolding is_allowed outcome current
   tunnels_made session t =
       let e = child_made spi session in
       ((event_passes tenant line time e l x t).allowed, (timed_run tenant line time e l x t).1)
 
   pub tunnels_deleted : Timed tenant line time (child_deleted spi) l x
-      → (line_in (run (timed tenant line time (child_deleted spi)) l).table tenant line ≡ some (with_children (current time x) (only (is_other spi) x.children)))
+      → (line_in (run (timed tenant line time (child_deleted spi)) l).table tenant line ≡ Some (with_children (current time x) (only (is_other spi) x.children)))
       × (suc (length (only (is_other spi) x.children)) ≡ length x.children)
   unfolding is_allowed outcome current
   tunnels_deleted t =

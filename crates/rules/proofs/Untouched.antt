@@ -1,8 +1,8 @@
 -- A call changes no record but its own, and never the length of the table.
+use Rattle.std.specs.Prelude.{Option, None, Some}
 use Prim.Native.Nat.{ℕ}
 use mathlib.Core.Bool.{true}
 use mathlib.Core.List.{List}
-use mathlib.Core.Option.{Option, none, some}
 use mathlib.Core.Path.{◌≡◌, refl, sym, ap, ◌∙◌}
 use lib.ListN.{length}
 use lib.Seq.{length-sets}
@@ -21,8 +21,8 @@ use Rattle.rules.proofs.Runs.{accepted, number, table_left}
 
 -- the record that an act changes
 unfoldable record_in : Act → List ℕ → Option ℕ
-record_in stay l = none
-record_in (replace pair s) l = some (record_of l pair)
+record_in stay l = None
+record_in (replace pair s) l = Some (record_of l pair)
 
 own_is : (c : Call) (l : List ℕ) → record_in (step_of c l).act l ≡ own_record c l
 unfolding record_in step_of step timed_step own_record
@@ -31,12 +31,12 @@ own_is (closing tenant line) l = refl
 own_is (listing tenant room) l = refl
 own_is (timed tenant line time e) l = refl
 
-applied_others : (l : List ℕ) → Good l → (a : Act) → Ready l a → (j : ℕ) → (record_in a l ≡ some j → ⊥) → slot (applied a l) j ≡ slot l j
+applied_others : (l : List ℕ) → Good l → (a : Act) → Ready l a → (j : ℕ) → (record_in a l ≡ Some j → ⊥) → slot (applied a l) j ≡ slot l j
 unfolding record_in applied
 applied_others l good stay r j apart = refl
-applied_others l good (replace pair s) r j apart = Stored.put_others l pair s good.sound r.0 (Stored.storable s r.1) j (λ e. apart (ap some (sym e)))
+applied_others l good (replace pair s) r j apart = Stored.put_others l pair s good.sound r.0 (Stored.storable s r.1) j (λ e. apart (ap Some (sym e)))
 
-pub others_untouched : (c : Call) (l : List ℕ) → is_octets c ≡ true → Good l → (j : ℕ) → (own_record c l ≡ some j → ⊥) → slot (run c l).table j ≡ slot l j
+pub others_untouched : (c : Call) (l : List ℕ) → is_octets c ≡ true → Good l → (j : ℕ) → (own_record c l ≡ Some j → ⊥) → slot (run c l).table j ≡ slot l j
 others_untouched c l octets good j apart =
     either (number c l) 0
     (λ e. ap (λ (r : Result). slot r.table j) (accepted c l e) ∙ applied_others l good (step_of c l).act (ready c l octets good e) j (λ q. apart (sym (own_is c l) ∙ q)))

@@ -1,8 +1,8 @@
 -- Tables that are alike to a tenant: what its calls see of them, and what anybody's open or close sees.
+use Rattle.std.specs.Prelude.{Option, None, is_some}
 use Prim.Native.Nat.{ℕ, suc, ◌≤◌, ◌<◌}
 use mathlib.Core.Bool.{Bool, true, false, not}
 use mathlib.Core.List.{List, [], ◌∷◌}
-use mathlib.Core.Option.{Option, none}
 use mathlib.Core.Path.{◌≡◌, refl, sym, ap, ◌∙◌, subst}
 use native.Mathlib.Nat.{zero-add}
 use native.Mathlib.Omega.{arith}
@@ -11,7 +11,6 @@ use Rattle.octets.specs.Refusal.{◌when◌, refusal}
 use Rattle.octets.proofs.Counts.{count_same}
 use Rattle.octets.proofs.Rows.{get_d_past, get_d_row, row_same}
 use Rattle.octets.proofs.Search.{lower}
-use Rattle.octets.specs.Row.{is_some}
 use Rattle.record.specs.Line.{Line}
 use Rattle.table.specs.Slots.{is_open, is_taken, open_pairs, slots_of}
 use Rattle.table.specs.Table.{is_table, record_count}
@@ -62,12 +61,12 @@ module _ (a : ℕ) (l m : List ℕ) (alike : Alike a l m) where
     there : (t : List ℕ) → line < 4 → has t ≡ is_open (pair_of tenant line) (slots_of t)
     unfolding line_seen view_of own_line pair_of
     there t h =
-        ap is_some (get_d_row (own_line tenant (slots_of t)) none 0 4 line h ∙ ap (own_line tenant (slots_of t)) (zero-add line))
+        ap is_some (get_d_row (own_line tenant (slots_of t)) None 0 4 line h ∙ ap (own_line tenant (slots_of t)) (zero-add line))
         ∙ sym (open_line (pair_of tenant line) (omega arith) (slots_of t))
 
     past : (t : List ℕ) → 4 ≤ line → has t ≡ false
-    unfolding line_seen view_of is_some
-    past t h = ap is_some (get_d_past (own_line tenant (slots_of t)) none 0 4 line h)
+    unfolding line_seen view_of
+    past t h = ap is_some (get_d_past (own_line tenant (slots_of t)) None 0 4 line h)
 
     same_there : has l ≡ has m
     unfolding pair_of

@@ -1,7 +1,6 @@
 -- What a call leaves: the row of 'Life of a line' by which it leads, how a line comes to be sure and live, its time, holds and children, and the one record
 -- that the call may change.
-use Rattle.std.specs.Prelude.{ℕ, ◌+◌, ◌*◌, ◌/◌, ◌%◌, Bool, true, false, cond, ◌&&◌, List, [], ◌∷◌, ◌++◌, ◌≡◌, eqb, get_or, length}
-use Rattle.std.proofs.Math.Option.{Option, none, some}
+use Rattle.std.specs.Prelude.{ℕ, ◌+◌, ◌*◌, ◌/◌, ◌%◌, Bool, true, false, cond, ◌&&◌, List, [], ◌∷◌, ◌++◌, ◌≡◌, eqb, get_or, length, Option, None, Some}
 use Rattle.octets.specs.Row.{only}
 use Rattle.address.specs.declared.Address.{Address}
 use Rattle.address.specs.declared.End.TheVariants.{At, Never}
@@ -28,42 +27,44 @@ use Rattle.rules.specs.declared.Action.{Action}
 use Rattle.rules.specs.Call.{Event, start, country, address, begin, init, eap, reply, final, error, congestion, give_up, child_made, child_deleted, ike_delete, Call, opening, closing, listing, timed, facts_of, pair_of}
 use Rattle.rules.specs.declared.StartNumbers.{StartNumbers}
 use Rattle.rules.specs.Phases.{last_reply, turn_in}
+use Rattle.selection.specs.declared.Stop.{Stop}
+use Rattle.selection.specs.declared.Stop.TheVariants as At
 
 -- opening takes a free record, closing and events change that of their pair, a listing none
 unfoldable pub own_record : Call → List ℕ → Option ℕ
-own_record (opening tenant line) l = some (record_of l free_pair)
-own_record (closing tenant line) l = some (record_of l (pair_of tenant line))
-own_record (listing tenant room) l = none
-own_record (timed tenant line time e) l = some (record_of l (pair_of tenant line))
+own_record (opening tenant line) l = Some (record_of l free_pair)
+own_record (closing tenant line) l = Some (record_of l (pair_of tenant line))
+own_record (listing tenant room) l = None
+own_record (timed tenant line time e) l = Some (record_of l (pair_of tenant line))
 
 -- why a line is sure after a call, by what the pair had before: it was, or the call is an EAP Success on it with the identifier of the last reply
 pub data SureBy (c : Call) (tenant line : ℕ) : Option Line → Type 0 where
-  was_sure : (x : Line) → is_in Stage.sure x.phase ≡ true → SureBy c tenant line (some x)
-  success : (x : Line) (time identifier : ℕ) (packet : List ℕ) → c ≡ timed tenant line time (eap packet) → read_packet packet ≡ Success identifier
-      → last_reply (turn_in x.phase) ≡ some identifier → SureBy c tenant line (some x)
+  was_sure : (x : Line) → is_in Stage.sure x.phase ≡ true → SureBy c tenant line (Some x)
+  success : (x : Line) (time identifier : ℕ) (packet : List ℕ) → c ≡ timed tenant line time (eap packet) → read_packet packet ≡ Some (Success identifier)
+      → last_reply (turn_in x.phase) ≡ Some identifier → SureBy c tenant line (Some x)
 
 -- why a line is live after a call: it was, or the call is the final answer on it with AUTH good, and it was sure
 pub data LiveBy (c : Call) (tenant line : ℕ) : Option Line → Type 0 where
-  was_live : (x : Line) → is_in Stage.live x.phase ≡ true → LiveBy c tenant line (some x)
-  auth_good : (x : Line) (time : ℕ) → c ≡ timed tenant line time (final 1) → is_in Stage.sure x.phase ≡ true → LiveBy c tenant line (some x)
+  was_live : (x : Line) → is_in Stage.live x.phase ≡ true → LiveBy c tenant line (Some x)
+  auth_good : (x : Line) (time : ℕ) → c ≡ timed tenant line time (final 1) → is_in Stage.sure x.phase ≡ true → LiveBy c tenant line (Some x)
 
 -- S5: an address is chosen, the one that the answer says, or selection stops
 pub data Chooses : Phase → Action → Type 0 where
   chooses : {a : Address} {passed : ℕ} → Chooses (Chosen a) (Action.Chose a passed)
-  finds_none : {passed : ℕ} → Chooses Idle (Action.Stopped 4 passed)
+  finds_none : {passed : ℕ} → Chooses Idle (Action.Stopped At.Address passed)
 
 -- S1 to S4 with place facts: name, chosen or idle, and the facts stay while the name is asked
 pub data Decides (f : Facts) : Phase → Action → Type 0 where
   asks_text : {at n : ℕ} → Decides f (Name f) (Action.AskText at n)
   asks_built : {n : ℕ} → Decides f (Name f) (Action.AskBuilt n)
   goes_through : {q : Phase} {action : Action} → Chooses q action → Decides f q action
-  stops : {n : ℕ} → Decides f Idle (Action.Stopped n 0)
+  stops : {at : Stop} → Decides f Idle (Action.Stopped at 0)
 
--- the phases auth, eap and sure, with 1 where EAP ends and 0 elsewhere
-pub data Underway : Phase → ℕ → Type 0 where
-  in_auth : {a : Address} → Underway (Auth a) 0
-  in_eap_lem : {a : Address} {t : Turn} → Underway (Eap a t) 1
-  in_sure : {a : Address} → Underway (Sure a) 0
+-- the phases auth, eap and sure, with whether EAP ends
+pub data Underway : Phase → Bool → Type 0 where
+  in_auth : {a : Address} → Underway (Auth a) false
+  in_eap_lem : {a : Address} {t : Turn} → Underway (Eap a t) true
+  in_sure : {a : Address} → Underway (Sure a) false
 
 -- the table 'Life of a line' row by row: event, phase before, phase after and action; the chosen address goes along from chosen to live
 pub data Transition : Event → Phase → Phase → Action → Type 0 where
@@ -75,22 +76,22 @@ pub data Transition : Event → Phase → Phase → Action → Type 0 where
   address_answered_lem : {list : List ℕ} {f : Facts} {q : Phase} {action : Action} → Chooses q action → Transition (address list) (Name f) q action
   begun : {a : Address} → Transition begin (Chosen a) (Init a) Action.SendInit
   init_answered : {a : Address} → Transition init (Init a) (Auth a) Action.SendAuthRequest
-  eap_started : {packet : List ℕ} {i : ℕ} {a : Address} → read_packet packet ≡ Start i → Transition (eap packet) (Auth a) (Eap a (First i)) Action.AskNas
-  eap_asked : {packet : List ℕ} {i at n j : ℕ} {a : Address} → read_packet packet ≡ NasRequest i at n
+  eap_started : {packet : List ℕ} {i : ℕ} {a : Address} → read_packet packet ≡ Some (Start i) → Transition (eap packet) (Auth a) (Eap a (First i)) Action.AskNas
+  eap_asked : {packet : List ℕ} {i at n j : ℕ} {a : Address} → read_packet packet ≡ Some (NasRequest i at n)
       → Transition (eap packet) (Eap a (Answered j)) (Eap a (Owed i)) (Action.HandUp at n)
   first_replied : {parameters nas : List ℕ} {room i : ℕ} {a : Address}
       → Transition (reply parameters nas room) (Eap a (First i)) (Eap a (Answered i)) (Action.SendResponse (length (response i parameters nas)))
   later_replied : {parameters nas : List ℕ} {room i : ℕ} {a : Address}
       → Transition (reply parameters nas room) (Eap a (Owed i)) (Eap a (Answered i)) (Action.SendResponse (length (response i parameters nas)))
-  eap_succeeded : {packet : List ℕ} {i : ℕ} {a : Address} → read_packet packet ≡ Success i → Transition (eap packet) (Eap a (Answered i)) (Sure a) Action.SendAuth
+  eap_succeeded : {packet : List ℕ} {i : ℕ} {a : Address} → read_packet packet ≡ Some (Success i) → Transition (eap packet) (Eap a (Answered i)) (Sure a) Action.SendAuth
   final_good : {a : Address} → Transition (final 1) (Sure a) (Live a) Action.Live
-  final_bad : {a : Address} → Transition (final 0) (Sure a) Idle (Action.Released 0)
-  error_notified : {number ended : ℕ} {p : Phase} → Underway p ended → Transition (error number) p Idle (Action.ErrorUp ended number)
-  congestion_told : {timer ended : ℕ} {p : Phase} → Underway p ended → Transition (congestion 1 timer) p Idle (Action.Released ended)
+  final_bad : {a : Address} → Transition (final 0) (Sure a) Idle (Action.Released false)
+  error_notified : {number : ℕ} {ended : Bool} {p : Phase} → Underway p ended → Transition (error number) p Idle (Action.ErrorUp ended number)
+  congestion_told : {timer : ℕ} {ended : Bool} {p : Phase} → Underway p ended → Transition (congestion 1 timer) p Idle (Action.Released ended)
   given_up : {p : Phase} → is_in Stage.idle p ≡ false → is_in Stage.live p ≡ false → Transition give_up p Idle Action.Nothing
   child_added : {spi session : ℕ} {a : Address} → Transition (child_made spi session) (Live a) (Live a) Action.Nothing
   child_taken : {spi : ℕ} {a : Address} → Transition (child_deleted spi) (Live a) (Live a) Action.Nothing
-  ike_deleted : {a : Address} → Transition ike_delete (Live a) Idle (Action.Released 0)
+  ike_deleted : {a : Address} → Transition ike_delete (Live a) Idle (Action.Released false)
 
 -- error and congestion end EAP on a line in eap, and no other event does
 unfoldable pub ends_eap : Event → Bool
@@ -112,7 +113,7 @@ ends_eap ike_delete = false
 -- a pair's phase after an accepted timed call on its line, and the numbers of the answer: those of a row of the table, where number 9 says that EAP ended
 pub record PhaseAfter (e : Event) (p : Phase) (numbers : List ℕ) (o : Option Line) : Type 0 where
   pub line : Line
-  pub stands : o ≡ some line
+  pub stands : o ≡ Some line
   pub action : Action
   pub says : numbers ≡ numbers_of action
   pub row : Transition e p line.phase action
@@ -120,8 +121,8 @@ pub record PhaseAfter (e : Event) (p : Phase) (numbers : List ℕ) (o : Option L
 
 -- hold by timer of the chosen address: without end at unit 7, else none at count 0, else until time plus count times unit
 unfoldable pub congestion_hold : ℕ → ℕ → Option Address → List Hold
-congestion_hold time octet none = []
-congestion_hold time octet (some a) =
+congestion_hold time octet None = []
+congestion_hold time octet (Some a) =
     let unit = octet / 32 in
     let count = octet % 32 in
     cond (eqb unit 7) (record { address = a; end = Never } ∷ [])
@@ -164,7 +165,7 @@ children_after ike_delete cs = []
 -- what a pair has after an accepted timed call on its line: the call's time, the holds that haven't ended then and the one added, and the children
 pub record After (e : Event) (now : ℕ) (x : Line) (o : Option Line) : Type 0 where
   pub line : Line
-  pub stands : o ≡ some line
+  pub stands : o ≡ Some line
   pub time : line.time ≡ now
   pub holds : line.holds ≡ only (ends_after now) x.holds ++ hold_added e now x.phase
   pub children : line.children ≡ children_after e x.children

@@ -3,6 +3,7 @@ use Rattle.std.specs.Prelude.{ℕ, ◌+◌, ◌≤◌, cond, List, [], ◌∷◌
 use Rattle.octets.specs.Part.{part, zeros}
 use Rattle.address.specs.Address.{high, low, version_of}
 use Rattle.rules.specs.Call.{Event, start, country, address, begin, init, eap, reply, final, error, congestion, give_up, child_made, child_deleted, ike_delete, Call, opening, closing, listing, timed}
+use Rattle.selection.specs.Stop.{stop_number}
 use Rattle.rules.specs.declared.Action.{Action}
 
 -- the refusal number or 0, the twelve numbers, the octets of the returned part, the answer buffer whole
@@ -22,7 +23,7 @@ twelve a b c d e f g h i j k l = a ∷ b ∷ c ∷ d ∷ e ∷ f ∷ g ∷ h ∷
 -- action, stop, passed; the part: where it is, its start, its length; version, high, low; EAP ended, error, written
 unfoldable pub numbers_of : Action → List ℕ
 numbers_of Action.Nothing = twelve 0 0 0 0 0 0 0 0 0 0 0 0
-numbers_of (Action.Stopped n k) = twelve 1 n k 0 0 0 0 0 0 0 0 0
+numbers_of (Action.Stopped at k) = twelve 1 (stop_number at) k 0 0 0 0 0 0 0 0 0
 numbers_of (Action.AskCountry n) = twelve 2 0 0 2 0 n 0 0 0 0 0 n
 numbers_of (Action.AskText at n) = twelve 3 0 0 1 at n 0 0 0 0 0 0
 numbers_of (Action.AskBuilt n) = twelve 3 0 0 2 0 n 0 0 0 0 0 n
@@ -34,8 +35,8 @@ numbers_of (Action.HandUp at n) = twelve 8 0 0 3 at n 0 0 0 0 0 0
 numbers_of (Action.SendResponse n) = twelve 9 0 0 0 0 0 0 0 0 0 0 n
 numbers_of Action.SendAuth = twelve 10 0 0 0 0 0 0 0 0 0 0 0
 numbers_of Action.Live = twelve 11 0 0 0 0 0 0 0 0 0 0 0
-numbers_of (Action.Released ended) = twelve 12 0 0 0 0 0 0 0 0 ended 0 0
-numbers_of (Action.ErrorUp ended n) = twelve 13 0 0 0 0 0 0 0 0 ended n 0
+numbers_of (Action.Released ended) = twelve 12 0 0 0 0 0 0 0 0 (cond ended 1 0) 0 0
+numbers_of (Action.ErrorUp ended n) = twelve 13 0 0 0 0 0 0 0 0 (cond ended 1 0) n 0
 numbers_of (Action.Listed n) = twelve 0 0 0 0 0 0 0 0 0 0 0 n
 
 -- the lent octets in which a part lies: 1 the configuration text, 2 the name buffer, 3 the packet; 0 none

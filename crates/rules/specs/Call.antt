@@ -1,10 +1,9 @@
 -- The calls on the table: their numbers, the octets that are lent with them, and how many octets their answer buffers have.
-use Rattle.std.specs.Prelude.{ℕ, suc, ◌+◌, ◌*◌, Bool, cond, ◌&&◌, ◌||◌, List, [], ◌++◌, leb, eqb}
+use Rattle.std.specs.Prelude.{ℕ, suc, ◌+◌, ◌*◌, Bool, cond, ◌&&◌, ◌||◌, List, [], ◌++◌, leb, eqb, Option, None, Some}
 use Rattle.record.specs.Sound.{last_line}
 use Rattle.network.specs.Plmn.{most_code}
 use Rattle.address.specs.Address.{is_version}
-use Rattle.network.specs.declared.MaybePlmn.{MaybePlmn}
-use Rattle.network.specs.declared.MaybePlmn.TheVariants.{Is, None}
+use Rattle.network.specs.declared.Plmn.{Plmn}
 use Rattle.place.specs.declared.Facts.{Facts}
 use Rattle.place.specs.declared.Place.{Place}
 use Rattle.place.specs.declared.Place.TheVariants.{Unknown, Home, Abroad}
@@ -116,8 +115,8 @@ start_numbers_fit g =
 unfoldable pub place_of : ℕ → ℕ → Place
 place_of place mcc = cond (eqb place 1) Home (cond (eqb place 2) (Abroad mcc) Unknown)
 
-unfoldable pub registered_of : ℕ → ℕ → ℕ → MaybePlmn
-registered_of registered mcc mnc = cond (eqb registered 1) (Is (record { mcc = mcc; mnc = mnc })) None
+unfoldable pub registered_of : ℕ → ℕ → ℕ → Option Plmn
+registered_of registered mcc mnc = cond (eqb registered 1) (Some (record { mcc = mcc; mnc = mnc })) None
 
 unfoldable pub facts_of : StartNumbers → Facts
 facts_of g = record {

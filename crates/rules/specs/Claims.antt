@@ -1,6 +1,5 @@
 -- What is claimed of `run`, for every call, table and history; the function `claims` promises it.
-use Rattle.std.specs.Prelude.{ℕ, suc, ◌≤◌, ◌<◌, Bool, true, false, cond, not, ◌||◌, List, [], ◌∷◌, ◌++◌, ◌≡◌, eqb, ltb, get_or, length, set}
-use Rattle.std.proofs.Math.Option.{Option, none, some}
+use Rattle.std.specs.Prelude.{ℕ, suc, ◌≤◌, ◌<◌, Bool, true, false, cond, not, ◌||◌, List, [], ◌∷◌, ◌++◌, ◌≡◌, eqb, ltb, get_or, length, set, Option, None, Some}
 use Rattle.octets.specs.Laws.{below}
 use Rattle.octets.specs.Part.{padded, zeros}
 use Rattle.octets.specs.Refusal.{Applies}
@@ -130,7 +129,7 @@ pub record Left (c : Call) (l : List ℕ) (r : Result) : Type 0 where
 
 -- where an answer says that selection stopped
 unfoldable pub stop_said : Answer → Option ℕ
-stop_said a = cond (eqb (get_or a.numbers 0 0) 1) (some (get_or a.numbers 1 0)) none
+stop_said a = cond (eqb (get_or a.numbers 0 0) 1) (Some (get_or a.numbers 1 0)) None
 
 -- how many addresses an answer says were passed over
 unfoldable pub passed_said : Answer → ℕ
@@ -140,12 +139,12 @@ passed_said a = get_or a.numbers 2 0
 pub record Timed (tenant line time : ℕ) (e : Event) (l : List ℕ) (x : Line) : Type 0 where
   pub octets : is_octets (timed tenant line time e) ≡ true
   pub good : Good l
-  pub stands : line_in l tenant line ≡ some x
+  pub stands : line_in l tenant line ≡ Some x
   pub accepted : number_given (timed tenant line time e) l ≡ 0
 
 -- a timed call answers what an outcome says, and leaves its line
 abbrev pub ComesTo : ℕ → ℕ → ℕ → Event → List ℕ → Outcome → Type 0
-ComesTo tenant line time e l o = ((run (timed tenant line time e) l).answer ≡ answer_of e o) × (line_in (run (timed tenant line time e) l).table tenant line ≡ some o.line)
+ComesTo tenant line time e l o = ((run (timed tenant line time e) l).answer ≡ answer_of e o) × (line_in (run (timed tenant line time e) l).table tenant line ≡ Some o.line)
 
 pub record Claims : Type 0 where
   -- a call is accepted exactly where no row of the table of refusal numbers applies
@@ -170,50 +169,50 @@ pub record Claims : Type 0 where
   pub timed_run : (tenant line time : ℕ) (e : Event) (l : List ℕ) (x : Line) → Timed tenant line time e l x → ComesTo tenant line time e l (outcome e (current time x))
   -- start and the country answer come to what S1 to S4 choose by the lent text and the place facts
   pub start_chooses : (tenant line time : ℕ) (g : StartNumbers) (text : List ℕ) (room : ℕ) (l : List ℕ) (x : Line) (s : Settings)
-      → Timed tenant line time (start g text room) l x → config_of text ≡ some s
+      → Timed tenant line time (start g text room) l x → config_of text ≡ Some s
       → ComesTo tenant line time (start g text room) l (decided (current time x) (facts_of g) text (Selection.start s (facts_of g)))
   pub country_chooses : (tenant line time replied : ℕ) (networks text : List ℕ) (room : ℕ) (l : List ℕ) (x : Line) (s : Settings) (f : Facts)
-      → Timed tenant line time (country replied networks text room) l x → config_of text ≡ some s → facts_in x.phase ≡ some f
+      → Timed tenant line time (country replied networks text room) l x → config_of text ≡ Some s → facts_in x.phase ≡ Some f
       → ComesTo tenant line time (country replied networks text room) l (decided (current time x) f text (Selection.country s f (Selection.country_reply (eqb replied 1) (networks_in networks))))
   -- start, the country answer and the address answer stop exactly where the step reached has nothing that is permitted, with its number
   pub stops_start : (tenant line time : ℕ) (g : StartNumbers) (text : List ℕ) (room : ℕ) (l : List ℕ) (x : Line) (s : Settings)
-      → Timed tenant line time (start g text room) l x → config_of text ≡ some s
+      → Timed tenant line time (start g text room) l x → config_of text ≡ Some s
       → Exactly (Ends s g.version (held_addresses (current time x).holds) (start_reached s (facts_of g).place)) (stop_said (run (timed tenant line time (start g text room)) l).answer)
   pub stops_country : (tenant line time replied : ℕ) (networks text : List ℕ) (room : ℕ) (l : List ℕ) (x : Line) (s : Settings) (f : Facts)
-      → Timed tenant line time (country replied networks text room) l x → config_of text ≡ some s → facts_in x.phase ≡ some f
+      → Timed tenant line time (country replied networks text room) l x → config_of text ≡ Some s → facts_in x.phase ≡ Some f
       → Exactly (Ends s f.version (held_addresses (current time x).holds) (country_reached s f.place (Selection.country_reply (eqb replied 1) (networks_in networks))))
       (stop_said (run (timed tenant line time (country replied networks text room)) l).answer)
   pub stops_address : (tenant line time : ℕ) (list : List ℕ) (l : List ℕ) (x : Line) (s : Settings) (f : Facts)
-      → Timed tenant line time (address list) l x → facts_in x.phase ≡ some f
+      → Timed tenant line time (address list) l x → facts_in x.phase ≡ Some f
       → Exactly (Ends s f.version (held_addresses (current time x).holds) (addresses (addresses_in list))) (stop_said (run (timed tenant line time (address list)) l).answer)
   -- the address answer says how many addresses stand before the first that is permitted, or all of them where none is
   pub passed_exactly : (tenant line time : ℕ) (list : List ℕ) (l : List ℕ) (x : Line) (f : Facts)
-      → Timed tenant line time (address list) l x → facts_in x.phase ≡ some f
+      → Timed tenant line time (address list) l x → facts_in x.phase ≡ Some f
       → passed_said (run (timed tenant line time (address list)) l).answer ≡ place (permitted f.version (held_addresses (current time x).holds)) (addresses_in list)
   -- and chooses that first one: the answer says it, and the line has it
   pub chosen_first : (tenant line time : ℕ) (list : List ℕ) (l : List ℕ) (x : Line) (f : Facts) (k : ℕ) (a : Address)
-      → Timed tenant line time (address list) l x → facts_in x.phase ≡ some f
+      → Timed tenant line time (address list) l x → facts_in x.phase ≡ Some f
       → FirstAt (permitted f.version (held_addresses (current time x).holds)) (addresses_in list) k a
       → ComesTo tenant line time (address list) l (goes (current time x) (Chosen a) (Action.Chose a k))
   -- a reply writes the response with the identifier that is owed, the lent AN-parameters and NAS
   pub reply_written : (tenant line time : ℕ) (parameters nas : List ℕ) (room i : ℕ) (l : List ℕ) (x : Line) → Timed tenant line time (reply parameters nas room) l x
-      → owed (turn_in x.phase) ≡ some i → (run (timed tenant line time (reply parameters nas room)) l).answer.buffer ≡ padded room (response i parameters nas)
+      → owed (turn_in x.phase) ≡ Some i → (run (timed tenant line time (reply parameters nas room)) l).answer.buffer ≡ padded room (response i parameters nas)
   -- children stand only on a live line
-  pub tunnels_live : (tenant line : ℕ) (l : List ℕ) (x : Line) → Good l → line_in l tenant line ≡ some x → is_in Stage.live x.phase ≡ false → x.children ≡ []
+  pub tunnels_live : (tenant line : ℕ) (l : List ℕ) (x : Line) → Good l → line_in l tenant line ≡ Some x → is_in Stage.live x.phase ≡ false → x.children ≡ []
   -- an accepted child made adds that one at the end of a live line and changes nothing else of the line as the call finds it
   pub tunnels_made : (tenant line time spi session : ℕ) (l : List ℕ) (x : Line) → Timed tenant line time (child_made spi session) l x
       → (is_in Stage.live x.phase ≡ true)
       × (line_in (run (timed tenant line time (child_made spi session)) l).table tenant line
-      ≡ some (with_children (current time x) (x.children ++ record { spi = spi; session = session } ∷ [])))
+      ≡ Some (with_children (current time x) (x.children ++ record { spi = spi; session = session } ∷ [])))
   -- an accepted delete takes that one, and no other
   pub tunnels_deleted : (tenant line time spi : ℕ) (l : List ℕ) (x : Line) → Timed tenant line time (child_deleted spi) l x
-      → (line_in (run (timed tenant line time (child_deleted spi)) l).table tenant line ≡ some (with_children (current time x) (only (is_other spi) x.children)))
+      → (line_in (run (timed tenant line time (child_deleted spi)) l).table tenant line ≡ Some (with_children (current time x) (only (is_other spi) x.children)))
       × (suc (length (only (is_other spi) x.children)) ≡ length x.children)
   -- whatever the call, a line is live only if it was or is now authenticated, and sure only if it was or EAP now succeeded
   pub live_authenticated : (c : Call) (l : List ℕ) (tenant line : ℕ) (y : Line) → is_octets c ≡ true → Good l → line ≤ last_line
-      → line_in (run c l).table tenant line ≡ some y → is_in Stage.live y.phase ≡ true → LiveBy c tenant line (line_in l tenant line)
+      → line_in (run c l).table tenant line ≡ Some y → is_in Stage.live y.phase ≡ true → LiveBy c tenant line (line_in l tenant line)
   pub sure_succeeded : (c : Call) (l : List ℕ) (tenant line : ℕ) (y : Line) → is_octets c ≡ true → Good l → line ≤ last_line
-      → line_in (run c l).table tenant line ≡ some y → is_in Stage.sure y.phase ≡ true → SureBy c tenant line (line_in l tenant line)
+      → line_in (run c l).table tenant line ≡ Some y → is_in Stage.sure y.phase ≡ true → SureBy c tenant line (line_in l tenant line)
   -- an accepted timed call stores its time and drops the ended holds; only congestion adds a hold, only a child made adds a child
   pub timed_after : (tenant line time : ℕ) (e : Event) (l : List ℕ) (x : Line) → Timed tenant line time e l x
       → After e time x (line_in (run (timed tenant line time e) l).table tenant line)
@@ -227,7 +226,7 @@ pub record Claims : Type 0 where
   pub times_rise : (tenant line time : ℕ) (e : Event) (l : List ℕ) (x : Line) → Timed tenant line time e l x → (x.time ≤ time) × (time ≤ last_time)
   -- every record but the call's own keeps its octets, a listing leaves all records, and the table keeps its length
   pub others_untouched : (c : Call) (l : List ℕ) → is_octets c ≡ true → Good l
-      → (j : ℕ) → (own_record c l ≡ some j → ⊥) → slot (run c l).table j ≡ slot l j
+      → (j : ℕ) → (own_record c l ≡ Some j → ⊥) → slot (run c l).table j ≡ slot l j
   pub listing_leaves : (tenant room : ℕ) (l : List ℕ) → (run (listing tenant room) l).table ≡ l
   pub length_kept : (c : Call) (l : List ℕ) → length (run c l).table ≡ length l
   -- writing and reading NAS responses undo each other
@@ -237,11 +236,11 @@ pub record Claims : Type 0 where
       → slot (run (closing tenant line) l).table (record_of l (pair_of tenant line)) ≡ zeros record_length
   -- a line just opened is idle with no child, no hold and time 0, whatever the table was
   pub taken_over_clean : (tenant line : ℕ) (l : List ℕ) → Good l → number_given (opening tenant line) l ≡ 0
-      → line_in (run (opening tenant line) l).table tenant line ≡ some fresh
+      → line_in (run (opening tenant line) l).table tenant line ≡ Some fresh
   -- and its tenant's listing says so: the lines as they were, with this one among them
   pub taken_over_listed : (tenant line room : ℕ) (l : List ℕ) → Good l → number_given (opening tenant line) l ≡ 0 → listing_room ≤ room
       → (run (listing tenant room) (run (opening tenant line) l).table).answer.buffer
-      ≡ padded room (list_from 0 (set (row (own_line tenant (slots_of l)) 0 (suc last_line)) line (some fresh)))
+      ≡ padded room (list_from 0 (set (row (own_line tenant (slots_of l)) 0 (suc last_line)) line (Some fresh)))
   -- the answer to every call has its count of numbers, and its buffer has the length that was lent, so that what is written fits it
   pub answer_count : (c : Call) (l : List ℕ) → length (run c l).answer.numbers ≡ count_of c
   pub answer_room : (c : Call) (l : List ℕ) → length (run c l).answer.buffer ≡ room_of c

@@ -1,6 +1,5 @@
 -- What an accepted event does to its line (document 01, 'Life of a line', the column 'After and action').
-use Rattle.std.specs.Prelude.{ℕ, ◌+◌, Bool, true, false, cond, List, [], ◌∷◌, ◌++◌, eqb, length}
-use Rattle.std.proofs.Math.Option.{Option, none, some}
+use Rattle.std.specs.Prelude.{ℕ, ◌+◌, Bool, true, false, cond, List, [], ◌∷◌, ◌++◌, eqb, length, Option, None, Some}
 use Rattle.octets.specs.Row.{only}
 use Rattle.address.specs.Address.{held_addresses}
 use Rattle.address.specs.declared.Address.{Address}
@@ -11,7 +10,7 @@ use Rattle.config.specs.Settings.{Settings, config_of}
 use Rattle.octets.specs.Part.{part}
 use Rattle.eap.specs.Packet.{read_packet}
 use Rattle.eap.specs.declared.Packet.{Packet}
-use Rattle.eap.specs.declared.Packet.TheVariants.{Start, NasRequest, Success, NasResponse, Stop, Other}
+use Rattle.eap.specs.declared.Packet.TheVariants.{Start, NasRequest, Success, NasResponse, Stop}
 use Rattle.gateway.specs.Gateway.{choose}
 use Rattle.gateway.specs.declared.Found.{Found}
 use Rattle.network.specs.declared.Plmn.{Plmn}
@@ -34,6 +33,7 @@ use Rattle.timer.specs.declared.Timer.{Timer}
 use Rattle.rules.specs.declared.Action.{Action}
 use Rattle.rules.specs.Call.{Event, start, country, address, begin, init, eap, reply, final, error, congestion, give_up, child_made, child_deleted, ike_delete, facts_of}
 use Rattle.rules.specs.Phases.{facts_in, owed, turn_in}
+use Rattle.selection.specs.declared.Stop.TheVariants as At
 
 -- the line afterwards, the action, the octets of the returned part and those written to the answer buffer
 pub record Outcome : Type 0 where
@@ -56,8 +56,8 @@ unreached x = goes x Idle Action.Nothing
 
 -- the chosen address goes on into another phase; a phase without one is refused by 10
 unfoldable pub onward : (Address → Phase) → Option Address → Phase
-onward f none = Idle
-onward f (some a) = f a
+onward f None = Idle
+onward f (Some a) = f a
 
 unfoldable pub keeps : Line → (Address → Phase) → Action → Outcome
 keeps x f action = goes x (onward f (chosen x.phase)) action
@@ -65,7 +65,7 @@ keeps x f action = goes x (onward f (chosen x.phase)) action
 -- S5: the address is chosen, or selection stops; either says how many addresses were passed over
 unfoldable pub gateway_found : Line → Found → Outcome
 gateway_found x (Found.Chosen a k) = goes x (Chosen a) (Action.Chose a k)
-gateway_found x (Found.Nothing k) = goes x Idle (Action.Stopped 4 k)
+gateway_found x (Found.Nothing k) = goes x Idle (Action.Stopped At.Address k)
 
 -- a name is asked: its octets are the part, and those that are built are written
 unfoldable pub name_asked : Line → Phase → Action → List ℕ → Choice → Outcome
@@ -85,38 +85,38 @@ decided x f text (Choice.Address a) = gateway_found x (choose f.version (held_ad
 
 -- start, by the lent text; one that isn't well formed is refused by 9
 unfoldable pub started : Line → Facts → List ℕ → Option Settings → Outcome
-started x f text none = unreached x
-started x f text (some s) = decided x f text (Selection.start s f)
+started x f text None = unreached x
+started x f text (Some s) = decided x f text (Selection.start s f)
 
 -- the country answer, with the place facts of the line and the lent text; a phase without facts is refused by 10, an ill-formed text by 9
 unfoldable pub country_answered : Line → Option Facts → Option (List Plmn) → List ℕ → Option Settings → Outcome
-country_answered x none ps text s = unreached x
-country_answered x (some f) ps text none = unreached x
-country_answered x (some f) ps text (some s) = decided x f text (Selection.country s f ps)
+country_answered x None ps text s = unreached x
+country_answered x (Some f) ps text None = unreached x
+country_answered x (Some f) ps text (Some s) = decided x f text (Selection.country s f ps)
 
 -- the address answer, for the local IP version of the line's place facts; a phase without them is refused by 10
 unfoldable pub address_answered : Line → Option Facts → List Address → Outcome
-address_answered x none list = unreached x
-address_answered x (some f) list = gateway_found x (choose f.version (held_addresses x.holds) list)
+address_answered x None list = unreached x
+address_answered x (Some f) list = gateway_found x (choose f.version (held_addresses x.holds) list)
 
 -- EAP Start: identifier owed, ask for NAS; EAP NAS: identifier owed, hand NAS up; EAP Success: send AUTH; every other packet is refused by 9
-unfoldable pub packet_taken : Line → List ℕ → Packet → Outcome
-packet_taken x packet (Start i) = keeps x (λ a. Eap a (First i)) Action.AskNas
-packet_taken x packet (NasRequest i at n) = record {
+unfoldable pub packet_taken : Line → List ℕ → Option Packet → Outcome
+packet_taken x packet None = unreached x
+packet_taken x packet (Some (Start i)) = keeps x (λ a. Eap a (First i)) Action.AskNas
+packet_taken x packet (Some (NasRequest i at n)) = record {
   line = in_phase x (onward (λ a. Eap a (Owed i)) (chosen x.phase));
   action = Action.HandUp at n;
   part = part packet at n;
   written = [];
 }
-packet_taken x packet (Success i) = keeps x Sure Action.SendAuth
-packet_taken x packet (NasResponse i p m at n) = unreached x
-packet_taken x packet (Stop i) = unreached x
-packet_taken x packet Other = unreached x
+packet_taken x packet (Some (Success i)) = keeps x Sure Action.SendAuth
+packet_taken x packet (Some (NasResponse i p m at n)) = unreached x
+packet_taken x packet (Some (Stop i)) = unreached x
 
 -- reply: none owed, a response with the identifier that was; where none is owed, the reply is refused by 10
 unfoldable pub replied : Line → List ℕ → List ℕ → Option ℕ → Outcome
-replied x parameters nas none = unreached x
-replied x parameters nas (some i) =
+replied x parameters nas None = unreached x
+replied x parameters nas (Some i) =
     let r = response i parameters nas in
     record {
       line = in_phase x (onward (λ a. Eap a (Answered i)) (chosen x.phase));
@@ -128,11 +128,11 @@ replied x parameters nas (some i) =
 -- final answer, AUTH good or bad
 unfoldable pub finished : Line → Bool → Outcome
 finished x true = keeps x Live Action.Live
-finished x false = goes x Idle (Action.Released 0)
+finished x false = goes x Idle (Action.Released false)
 
--- EAP ended if eap
-unfoldable pub ended : Phase → ℕ
-ended p = cond (is_in Stage.eap p) 1 0
+-- whether an EAP session ends: in phase eap
+unfoldable pub ended : Phase → Bool
+ended p = is_in Stage.eap p
 
 -- hold by timer: until time plus count times unit, without end, or none
 unfoldable pub timer_hold : ℕ → Timer → Address → List Hold
@@ -142,8 +142,8 @@ timer_hold time Timer.Deactivated a = record { address = a; end = Never } ∷ []
 
 -- the same of the chosen address; a phase without one is refused by 10
 unfoldable pub chosen_hold : ℕ → Timer → Option Address → List Hold
-chosen_hold time t none = []
-chosen_hold time t (some a) = timer_hold time t a
+chosen_hold time t None = []
+chosen_hold time t (Some a) = timer_hold time t a
 
 -- congestion: idle, the chosen address held
 unfoldable pub congested : Line → Timer → Line
@@ -170,4 +170,4 @@ outcome (congestion authenticated timer) x = becomes (congested x (timer_of time
 outcome give_up x = goes x Idle Action.Nothing
 outcome (child_made spi session) x = becomes (with_children x (x.children ++ record { spi = spi; session = session } ∷ [])) Action.Nothing
 outcome (child_deleted spi) x = becomes (with_children x (only (is_other spi) x.children)) Action.Nothing
-outcome ike_delete x = becomes (with_children (in_phase x Idle) []) (Action.Released 0)
+outcome ike_delete x = becomes (with_children (in_phase x Idle) []) (Action.Released false)

@@ -1,7 +1,6 @@
 -- The listing of one tenant: open lines by rising number, each with its children in the order made (document 01, 'Listing of one tenant').
-use Rattle.std.specs.Prelude.{ℕ, suc, ◌*◌, List, [], ◌∷◌, ◌++◌, length}
+use Rattle.std.specs.Prelude.{ℕ, suc, ◌*◌, List, [], ◌∷◌, ◌++◌, length, Option, None, Some}
 use Prim.Native.String.{String}
-use Rattle.std.proofs.Math.Option.{Option, none, some}
 use Rattle.octets.specs.Row.{joined}
 use Rattle.address.specs.Address.{number_of, version_of, width_of}
 use Rattle.address.specs.declared.Address.{Address}
@@ -33,8 +32,8 @@ word Stage.live = "live"
 
 -- the chosen address in hex, 8 or 32 lower-case digits, or a hyphen
 unfoldable pub address_text : Option Address → List ℕ
-address_text none = text "-"
-address_text (some a) = digit_text 16 (2 * width_of (version_of a)) (number_of a)
+address_text None = text "-"
+address_text (Some a) = digit_text 16 (2 * width_of (version_of a)) (number_of a)
 
 -- a child record has its line, the SPI as 8 hex digits, the session in decimal
 unfoldable pub child_text : ℕ → Child → List ℕ
@@ -49,5 +48,5 @@ line_text n x =
 -- the lines from one number on, those that are open
 unfoldable pub list_from : ℕ → List (Option Line) → List ℕ
 list_from n [] = []
-list_from n (none ∷ xs) = list_from (suc n) xs
-list_from n (some x ∷ xs) = line_text n x ++ list_from (suc n) xs
+list_from n (None ∷ xs) = list_from (suc n) xs
+list_from n (Some x ∷ xs) = line_text n x ++ list_from (suc n) xs

@@ -1,9 +1,7 @@
 -- When a call is refused (document 01's table of refusal numbers, row by row, and the column 'Phase before' of 'Life of a line').
-use Rattle.std.specs.Prelude.{ℕ, Bool, false, not, ◌&&◌, ◌||◌, List, [], ◌∷◌, leb, ltb, eqb, length}
-use Rattle.std.proofs.Math.Option.{Option, none, some}
+use Rattle.std.specs.Prelude.{ℕ, Bool, false, not, ◌&&◌, ◌||◌, List, [], ◌∷◌, leb, ltb, eqb, length, Option, None, Some, is_some}
 use Rattle.octets.specs.Digits.{most_octet}
 use Rattle.octets.specs.Refusal.{Refusal, ◌when◌}
-use Rattle.octets.specs.Row.{is_some}
 use Rattle.address.specs.Address.{most_holds}
 use Rattle.children.specs.Children.{child_fits, has_spi, most_children}
 use Rattle.children.specs.Laws.{child_storable}
@@ -11,7 +9,7 @@ use Rattle.children.specs.declared.Child.{Child}
 use Rattle.config.specs.Settings.{Settings, config_of}
 use Rattle.eap.specs.Packet.{is_request, read_packet}
 use Rattle.eap.specs.declared.Packet.{Packet}
-use Rattle.eap.specs.declared.Packet.TheVariants.{Start, NasRequest, Success, NasResponse, Stop, Other}
+use Rattle.eap.specs.declared.Packet.TheVariants.{Start, NasRequest, Success, NasResponse, Stop}
 use Rattle.lists.specs.Lists.{addresses_fit, networks_fit}
 use Rattle.parameters.specs.Parameters.{well_formed}
 use Rattle.phase.specs.Stage.{is_in}
@@ -99,9 +97,9 @@ is_long text = ltb most_text (length text)
 
 -- abroad with the home MCC of the lent text is 8; a malformed text has none
 unfoldable pub is_home_abroad : Option Settings → Option Facts → Bool
-is_home_abroad none f = false
-is_home_abroad (some s) none = false
-is_home_abroad (some s) (some f) = home_abroad s f.place
+is_home_abroad None f = false
+is_home_abroad (Some s) None = false
+is_home_abroad (Some s) (Some f) = home_abroad s f.place
 
 -- the country answer's test is made where the line waits for that answer
 unfoldable pub waits_home_abroad : List ℕ → Phase → Bool
@@ -121,7 +119,7 @@ is_child c = child_fits c && child_storable c
 
 -- 8: a number or count out of its range
 unfoldable pub is_out_of_range : Event → Line → Bool
-is_out_of_range (start g text room) x = not (start_numbers_fit g) || is_long text || is_home_abroad (config_of text) (some (facts_of g))
+is_out_of_range (start g text room) x = not (start_numbers_fit g) || is_long text || is_home_abroad (config_of text) (Some (facts_of g))
 is_out_of_range (country replied networks text room) x = bad_networks replied networks || is_long text || waits_home_abroad text x.phase
 is_out_of_range (address addresses) x = not (addresses_fit addresses)
 is_out_of_range begin x = false
@@ -136,6 +134,11 @@ is_out_of_range (child_made spi session) x = not (is_child (record { spi = spi; 
 is_out_of_range (child_deleted spi) x = false
 is_out_of_range ike_delete x = false
 
+-- octets that are a packet, and one that the EAP step takes apart
+unfoldable pub is_some_request : Option Packet → Bool
+is_some_request None = false
+is_some_request (Some p) = is_request p
+
 -- 9: a configuration text or packet that isn't well formed; the EAP step takes Start, NAS requests and Success apart and turns every other packet away
 unfoldable pub is_malformed : Event → Bool
 is_malformed (start g text room) = not (is_some (config_of text))
@@ -143,7 +146,7 @@ is_malformed (country replied networks text room) = not (is_some (config_of text
 is_malformed (address addresses) = false
 is_malformed begin = false
 is_malformed init = false
-is_malformed (eap packet) = not (is_request (read_packet packet))
+is_malformed (eap packet) = not (is_some_request (read_packet packet))
 is_malformed (reply parameters nas room) = not (well_formed parameters)
 is_malformed (final good) = false
 is_malformed (error number) = false
@@ -155,17 +158,17 @@ is_malformed ike_delete = false
 
 -- an identifier is the one that there is
 unfoldable pub is_identifier : ℕ → Option ℕ → Bool
-is_identifier n none = false
-is_identifier n (some m) = eqb n m
+is_identifier n None = false
+is_identifier n (Some m) = eqb n m
 
 -- EAP Start in auth, EAP NAS in eap with none owed, EAP Success there with the identifier of the last reply
-unfoldable pub is_due : Packet → Phase → Bool
-is_due (Start i) p = is_in Stage.auth p
-is_due (NasRequest i at n) p = is_some (last_reply (turn_in p))
-is_due (Success i) p = is_identifier i (last_reply (turn_in p))
-is_due (NasResponse i q m at n) p = false
-is_due (Stop i) p = false
-is_due Other p = false
+unfoldable pub is_due : Option Packet → Phase → Bool
+is_due None p = false
+is_due (Some (Start i)) p = is_in Stage.auth p
+is_due (Some (NasRequest i at n)) p = is_some (last_reply (turn_in p))
+is_due (Some (Success i)) p = is_identifier i (last_reply (turn_in p))
+is_due (Some (NasResponse i q m at n)) p = false
+is_due (Some (Stop i)) p = false
 
 -- 10 where the event isn't allowed in this phase: the column 'Phase before'
 unfoldable pub is_allowed : Event → Line → Bool

@@ -1,6 +1,5 @@
 -- What a call sees of the table: whether it is sound, whether a record is free, and its own tenant's lines.
-use Rattle.std.specs.Prelude.{ℕ, suc, Bool, List, [], get_or}
-use Rattle.std.proofs.Math.Option.{Option, none, some}
+use Rattle.std.specs.Prelude.{ℕ, suc, Bool, List, [], get_or, Option, None, Some}
 use Rattle.octets.specs.Row.{row}
 use Rattle.phase.specs.declared.Phase.TheVariants.{Idle}
 use Rattle.record.specs.Changes.{current}
@@ -30,7 +29,7 @@ view_in c l = view_of (is_table l) (tenant_of c) (slots_of l)
 
 -- the line with a number, where it is open
 unfoldable pub line_seen : View → ℕ → Option Line
-line_seen v line = get_or v.lines line none
+line_seen v line = get_or v.lines line None
 
 -- open sets the time to 0
 unfoldable pub fresh : Line
@@ -38,8 +37,8 @@ fresh = record { time = 0; phase = Idle; holds = []; children = [] }
 
 -- a pair that isn't open is refused whatever its line would be
 unfoldable pub line_or : Option Line → Line
-line_or none = fresh
-line_or (some x) = x
+line_or None = fresh
+line_or (Some x) = x
 
 -- the line as a timed call finds it, its ended holds dropped
 unfoldable pub line_found : ℕ → ℕ → View → Line

@@ -8,6 +8,7 @@ ghost use Rattle.rules.specs.Claims.{Claims};
 
 use address::Address;
 use record::LINES;
+use selection::Stop;
 
 // The numbers of a start: the place and the visited MCC, whether registered and to which PLMN, the local IP version.
 #[derive(Clone, Copy)]
@@ -25,7 +26,7 @@ pub struct StartNumbers {
 pub enum Action {
     Nothing,
     // Selection stopped: where, and how many addresses were passed over.
-    Stopped(u64, usize),
+    Stopped(Stop, usize),
     // Ask for the visited-country name: how many octets of the name buffer it has.
     AskCountry(usize),
     // Ask for the gateway name that lies in the text: where it begins, and how many octets it has.
@@ -43,10 +44,10 @@ pub enum Action {
     SendResponse(usize),
     SendAuth,
     Live,
-    // Released: 1 where an EAP session ended.
-    Released(u64),
-    // Hand the error up: 1 where an EAP session ended, and the error's number.
-    ErrorUp(u64, u64),
+    // Released: whether an EAP session ended.
+    Released(bool),
+    // Hand the error up: whether an EAP session ended, and the error's number.
+    ErrorUp(bool, u64),
     // So many octets of the listing are written.
     Listed(usize),
 }

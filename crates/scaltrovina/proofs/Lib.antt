@@ -1,1 +1,2 @@
--- The exported calls.
+-- The laws that the proofs of this crate share.
+mod Events

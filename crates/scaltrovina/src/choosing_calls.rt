@@ -5,6 +5,9 @@ ghost use Rattle.rules.specs.Call.{address, country, start, start_numbers, timed
 ghost use Rattle.rules.specs.Run.{run};
 ghost use Rattle.frame.specs.Returned.{returned};
 
+use rules::StartNumbers;
+use settling::answered;
+
 // Starts an attempt: selection goes on until it asks a name, chooses an address or stops.
 #[unsafe(no_mangle)]
 pub extern "C" fn scal_start(
@@ -25,19 +28,16 @@ pub extern "C" fn scal_start(
     ensures table_after { returned result answer.new (part_named answer.new text.now name.new []) name.new table.new ≡ run (timed tenant line time (start (start_numbers place mcc registered registered_mcc registered_mnc version) text.now (length name.old))) table.old }
     ensures part_within { PartWithin answer.new text.now name.new [] }
 {
-    setup::start(
-        table,
-        tenant,
-        line,
-        time,
+    let given = StartNumbers {
         place,
         mcc,
         registered,
         registered_mcc,
         registered_mnc,
         version,
-        text,
-        name,
+    };
+    answered(
+        setup::start(table, tenant, line, time, given, text, name),
         answer,
     )
 }
@@ -58,8 +58,9 @@ pub extern "C" fn scal_country(
     ensures table_after { returned result answer.new (part_named answer.new text.now name.new []) name.new table.new ≡ run (timed tenant line time (country replied networks.now text.now (length name.old))) table.old }
     ensures part_within { PartWithin answer.new text.now name.new [] }
 {
-    setup::country(
-        table, tenant, line, time, replied, networks, text, name, answer,
+    answered(
+        setup::country(table, tenant, line, time, replied, networks, text, name),
+        answer,
     )
 }
 
@@ -75,5 +76,5 @@ pub extern "C" fn scal_address(
 ) -> u64
     ensures { returned result answer.new [] [] table.new ≡ run (timed tenant line time (address addresses.now)) table.old }
 {
-    setup::address(table, tenant, line, time, addresses, answer)
+    answered(setup::address(table, tenant, line, time, addresses), answer)
 }

@@ -6,6 +6,7 @@ ghost use Rattle.rules.specs.Call.{closing, opening};
 ghost use Rattle.rules.specs.Run.{run};
 ghost use Rattle.frame.specs.Returned.{returned};
 
+use settling::{answered, number};
 use table::TABLE;
 
 // The length of a sound table; zeros of this length are the empty one.
@@ -21,7 +22,7 @@ pub extern "C" fn scal_table_length() -> u64
 pub extern "C" fn scal_open(table: &mut [u8], tenant: u64, line: u64) -> u64
     ensures { returned result [] [] [] table.new ≡ run (opening tenant line) table.old }
 {
-    line_calls::open(table, tenant, line)
+    number(line_calls::open(table, tenant, line))
 }
 
 // Closes a line: its record is free, and all zeros.
@@ -29,7 +30,7 @@ pub extern "C" fn scal_open(table: &mut [u8], tenant: u64, line: u64) -> u64
 pub extern "C" fn scal_close(table: &mut [u8], tenant: u64, line: u64) -> u64
     ensures { returned result [] [] [] table.new ≡ run (closing tenant line) table.old }
 {
-    line_calls::close(table, tenant, line)
+    number(line_calls::close(table, tenant, line))
 }
 
 // Lists a tenant's lines.
@@ -42,5 +43,5 @@ pub extern "C" fn scal_list(
 ) -> u64
     ensures { returned result answer.new [] listing.new table.now ≡ run (Call.listing tenant (length listing.old)) table.now }
 {
-    line_calls::list(table, tenant, listing, answer)
+    answered(line_calls::list(table, tenant, listing), answer)
 }

@@ -2,14 +2,14 @@
 ghost use Rattle.std.specs.Prelude.{[], ◌≡◌, length};
 ghost use Rattle.packets.specs.Packets.{packet_returned, read_parameter, read_request, read_response, read_timer, write_response};
 
-use packets::{read_parameter, read_request, read_response, read_timer, write_response};
+use packets::{read_parameter, read_request, read_response, read_timer, returned, write_response};
 
 // Reads Start, a NAS request or Success.
 #[unsafe(no_mangle)]
 pub extern "C" fn scal_read_request(packet: &[u8], fields: &mut [u64; 6]) -> u64
     ensures { packet_returned result fields.new [] ≡ read_request packet.now }
 {
-    read_request(packet, fields)
+    returned(read_request(packet), fields)
 }
 
 // Reads a NAS response.
@@ -17,7 +17,7 @@ pub extern "C" fn scal_read_request(packet: &[u8], fields: &mut [u64; 6]) -> u64
 pub extern "C" fn scal_read_response(packet: &[u8], fields: &mut [u64; 6]) -> u64
     ensures { packet_returned result fields.new [] ≡ read_response packet.now }
 {
-    read_response(packet, fields)
+    returned(read_response(packet), fields)
 }
 
 // Writes a NAS response.
@@ -31,7 +31,7 @@ pub extern "C" fn scal_write_response(
 ) -> u64
     ensures { packet_returned result fields.new packet.new ≡ write_response identifier parameters.now nas.now (length packet.old) }
 {
-    write_response(identifier, parameters, nas, packet, fields)
+    returned(write_response(identifier, parameters, nas, packet), fields)
 }
 
 // Reads the AN-parameter at a place of a block.
@@ -39,7 +39,7 @@ pub extern "C" fn scal_write_response(
 pub extern "C" fn scal_parameter(parameters: &[u8], at: u64, fields: &mut [u64; 6]) -> u64
     ensures { packet_returned result fields.new [] ≡ read_parameter parameters.now at }
 {
-    read_parameter(parameters, at, fields)
+    returned(read_parameter(parameters, at), fields)
 }
 
 // Reads a back-off timer octet.
@@ -47,5 +47,5 @@ pub extern "C" fn scal_parameter(parameters: &[u8], at: u64, fields: &mut [u64; 
 pub extern "C" fn scal_timer(octet: u64, fields: &mut [u64; 6]) -> u64
     ensures { packet_returned result fields.new [] ≡ read_timer octet }
 {
-    read_timer(octet, fields)
+    returned(read_timer(octet), fields)
 }

@@ -6,8 +6,9 @@ ghost use Rattle.rules.specs.Call.{begin, congestion, eap, error, final, give_up
 ghost use Rattle.rules.specs.Run.{run};
 ghost use Rattle.frame.specs.Returned.{returned};
 
-use calls::signalling::on_line;
-use ike::event::IkeEvent;
+use calls::signalling::{congested, on_line};
+use ike::{begin, error, final_answer, give_up, init_answer};
+use settling::answered;
 
 // Begins IKE with the chosen address.
 #[unsafe(no_mangle)]
@@ -20,7 +21,7 @@ pub extern "C" fn scal_begin(
 ) -> u64
     ensures { returned result answer.new [] [] table.new ≡ run (timed tenant line time begin) table.old }
 {
-    on_line(table, tenant, line, time, IkeEvent::Begin, answer)
+    answered(on_line(table, tenant, line, time, begin), answer)
 }
 
 // Takes the answer to IKE_SA_INIT.
@@ -34,7 +35,7 @@ pub extern "C" fn scal_init(
 ) -> u64
     ensures { returned result answer.new [] [] table.new ≡ run (timed tenant line time init) table.old }
 {
-    on_line(table, tenant, line, time, IkeEvent::InitAnswer, answer)
+    answered(on_line(table, tenant, line, time, init_answer), answer)
 }
 
 // Takes an EAP packet: Start, a NAS request or Success.
@@ -50,7 +51,10 @@ pub extern "C" fn scal_eap(
     ensures table_after { returned result answer.new (part_named answer.new [] [] packet.now) [] table.new ≡ run (timed tenant line time (eap packet.now)) table.old }
     ensures part_within { PartWithin answer.new [] [] packet.now }
 {
-    calls::signalling::eap(table, tenant, line, time, packet, answer)
+    answered(
+        calls::signalling::eap(table, tenant, line, time, packet),
+        answer,
+    )
 }
 
 // Writes the response that is owed, with AN-parameters and NAS.
@@ -67,7 +71,10 @@ pub extern "C" fn scal_reply(
 ) -> u64
     ensures { returned result answer.new [] reply.new table.new ≡ run (timed tenant line time (Call.reply parameters.now nas.now (length reply.old))) table.old }
 {
-    calls::signalling::reply(table, tenant, line, time, parameters, nas, reply, answer)
+    answered(
+        calls::signalling::reply(table, tenant, line, time, parameters, nas, reply),
+        answer,
+    )
 }
 
 // Takes the final IKE_AUTH answer.
@@ -82,14 +89,8 @@ pub extern "C" fn scal_final(
 ) -> u64
     ensures { returned result answer.new [] [] table.new ≡ run (timed tenant line time (final good)) table.old }
 {
-    on_line(
-        table,
-        tenant,
-        line,
-        time,
-        IkeEvent::FinalAnswer(good),
-        answer,
-    )
+    let step = |found, time| final_answer(found, time, good);
+    answered(on_line(table, tenant, line, time, step), answer)
 }
 
 // Takes an error notify.
@@ -104,7 +105,8 @@ pub extern "C" fn scal_error(
 ) -> u64
     ensures { returned result answer.new [] [] table.new ≡ run (timed tenant line time (error number)) table.old }
 {
-    on_line(table, tenant, line, time, IkeEvent::Error(number), answer)
+    let step = |found, time| error(found, time, number);
+    answered(on_line(table, tenant, line, time, step), answer)
 }
 
 // Takes a congestion notify with its back-off timer.
@@ -120,7 +122,10 @@ pub extern "C" fn scal_congestion(
 ) -> u64
     ensures { returned result answer.new [] [] table.new ≡ run (timed tenant line time (congestion authenticated timer)) table.old }
 {
-    calls::signalling::congested(table, tenant, line, time, authenticated, timer, answer)
+    answered(
+        congested(table, tenant, line, time, authenticated, timer),
+        answer,
+    )
 }
 
 // Gives an attempt up.
@@ -134,5 +139,5 @@ pub extern "C" fn scal_give_up(
 ) -> u64
     ensures { returned result answer.new [] [] table.new ≡ run (timed tenant line time give_up) table.old }
 {
-    on_line(table, tenant, line, time, IkeEvent::GiveUp, answer)
+    answered(on_line(table, tenant, line, time, give_up), answer)
 }

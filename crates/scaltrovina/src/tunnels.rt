@@ -4,8 +4,9 @@ ghost use Rattle.rules.specs.Call.{child_deleted, child_made, ike_delete, timed}
 ghost use Rattle.rules.specs.Run.{run};
 ghost use Rattle.frame.specs.Returned.{returned};
 
-use calls::tunnels::on_tunnel;
-use tunnel::TunnelEvent;
+use calls::tunnels::{child_made, on_tunnel};
+use settling::answered;
+use tunnel::{child_deleted, ike_delete};
 
 // Adds a child association.
 #[unsafe(no_mangle)]
@@ -20,7 +21,7 @@ pub extern "C" fn scal_child_made(
 ) -> u64
     ensures { returned result answer.new [] [] table.new ≡ run (timed tenant line time (child_made spi session)) table.old }
 {
-    calls::tunnels::child_made(table, tenant, line, time, spi, session, answer)
+    answered(child_made(table, tenant, line, time, spi, session), answer)
 }
 
 // Takes a child association out.
@@ -35,14 +36,8 @@ pub extern "C" fn scal_child_deleted(
 ) -> u64
     ensures { returned result answer.new [] [] table.new ≡ run (timed tenant line time (child_deleted spi)) table.old }
 {
-    on_tunnel(
-        table,
-        tenant,
-        line,
-        time,
-        TunnelEvent::ChildDeleted(spi),
-        answer,
-    )
+    let step = |found, time| child_deleted(found, time, spi);
+    answered(on_tunnel(table, tenant, line, time, step), answer)
 }
 
 // Takes an IKE delete: the line is idle, and its child associations are gone.
@@ -56,5 +51,5 @@ pub extern "C" fn scal_ike_delete(
 ) -> u64
     ensures { returned result answer.new [] [] table.new ≡ run (timed tenant line time ike_delete) table.old }
 {
-    on_tunnel(table, tenant, line, time, TunnelEvent::IkeDelete, answer)
+    answered(on_tunnel(table, tenant, line, time, ike_delete), answer)
 }

@@ -1,5 +1,4 @@
 -- The laws of lent texts and of what is chosen.
-pub mod Choosing
+pub mod Asked
 pub mod Outcomes
 pub mod Texts
-pub mod Asked

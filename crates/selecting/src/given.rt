@@ -2,11 +2,12 @@
 ghost use Rattle.std.specs.Prelude.{◌≡◌};
 ghost use Rattle.rules.specs.Call.{facts_of, place_of, registered_of, start_numbers_fit};
 
-use network::{MOST_CODE, MaybePlmn, Plmn};
+use network::{MOST_CODE, Plmn};
 use place::{Facts, Place};
 use rules::StartNumbers;
 
 // Whether the numbers of a start are in their ranges, those that it does not have being 0.
+#[tactic(auto, unfolding(rules::specs::Call::start_numbers_fit, address::specs::Address::is_version))]
 pub(crate) fn numbers_fit(g: StartNumbers) -> bool
     ensures { result ≡ start_numbers_fit g }
 {
@@ -21,29 +22,27 @@ pub(crate) fn numbers_fit(g: StartNumbers) -> bool
 }
 
 // The place that its number says, with the visited MCC.
+#[tactic(auto, unfolding(rules::specs::Call::place_of))]
 fn place_of(place: u64, mcc: u64) -> Place
     ensures { result ≡ place_of place mcc }
 {
-    if place == 1 {
-        return Place::Home;
+    match place {
+        1 => Place::Home,
+        2 => Place::Abroad(mcc),
+        _ => Place::Unknown,
     }
-    if place == 2 {
-        return Place::Abroad(mcc);
-    }
-    Place::Unknown
 }
 
 // The PLMN that a line is registered to, where it is.
-fn registered_of(registered: u64, mcc: u64, mnc: u64) -> MaybePlmn
+#[tactic(auto, unfolding(rules::specs::Call::registered_of))]
+fn registered_of(registered: u64, mcc: u64, mnc: u64) -> Option<Plmn>
     ensures { result ≡ registered_of registered mcc mnc }
 {
-    if registered == 1 {
-        return MaybePlmn::Is(Plmn { mcc, mnc });
-    }
-    MaybePlmn::None
+    (registered == 1).then_some(Plmn { mcc, mnc })
 }
 
 // The place facts that the numbers of a start say.
+#[tactic(auto, unfolding(rules::specs::Call::facts_of))]
 pub(crate) fn facts_of(g: StartNumbers) -> Facts
     ensures { result ≡ facts_of g }
 {

@@ -1,7 +1,7 @@
 -- What the tests of a choice come to.
+use Rattle.std.specs.Prelude.{None, Some}
 use mathlib.Core.Bool.{true, false}
 use mathlib.Core.List.{List, [], ◌∷◌}
-use mathlib.Core.Option.{none, some}
 use mathlib.Core.Path.{◌≡◌, sym}
 use Rattle.network.specs.Plmn.{among}
 use Rattle.network.specs.declared.Plmn.{Plmn}
@@ -27,25 +27,25 @@ module _ (s : Settings) (p : Plmn) where
 
   -- the registered PLMN in a country answer
   module _ (ps : List Plmn) where
-    pub not_listed : among p ps ≡ false → none ≡ if_listed s (some p) ps
+    pub not_listed : among p ps ≡ false → None ≡ if_listed s (Some p) ps
     unfolding if_listed
     not_listed e = sym (rw e)
 
     module _ (is-listed : among p ps ≡ true) where
-      pub listed_barred : barred s p ≡ true → none ≡ if_listed s (some p) ps
+      pub listed_barred : barred s p ≡ true → None ≡ if_listed s (Some p) ps
       unfolding if_listed unbarred
       listed_barred e = sym (rw (is-listed, e))
 
-      pub listed_free : barred s p ≡ false → some p ≡ if_listed s (some p) ps
+      pub listed_free : barred s p ≡ false → Some p ≡ if_listed s (Some p) ps
       unfolding if_listed unbarred
       listed_free e = sym (rw (is-listed, e))
 
 -- a country answer by its list
 module _ (s : Settings) (f : Facts) (ps : List Plmn) where
-  pub none_is : ps ≡ [] → ask_or (ranked s ps f.place) (at_home s) ≡ country s f (some ps)
+  pub none_is : ps ≡ [] → ask_or (ranked s ps f.place) (at_home s) ≡ country s f (Some ps)
   unfolding country none_listed
   none_is e = rw e
 
-  pub more_are : (q : Plmn) (qs : List Plmn) → ps ≡ q ∷ qs → one_or_more s f ps ≡ country s f (some ps)
+  pub more_are : (q : Plmn) (qs : List Plmn) → ps ≡ q ∷ qs → one_or_more s f ps ≡ country s f (Some ps)
   unfolding country
   more_are q qs e = rw e

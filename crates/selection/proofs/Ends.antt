@@ -1,8 +1,8 @@
 -- Selection stops exactly where the step reached has nothing that is permitted.
+use Rattle.std.specs.Prelude.{Option, None, Some}
 use Prim.Native.Nat.{ℕ}
 use mathlib.Core.Bool.{Bool, true, false, cond, not, ◌&&◌, ◌||◌, false≢true, true≢false}
 use mathlib.Core.List.{List, [], ◌∷◌}
-use mathlib.Core.Option.{Option, none, some}
 use mathlib.Core.Path.{◌≡◌, refl, sym, ap, ap₂, ◌∙◌}
 use lib.Dec.{eqb}
 use lib.ListN.{drop}
@@ -26,33 +26,34 @@ use Rattle.selection.specs.Selection.{registered, by_node, at_home, direct, abro
 use Rattle.selection.specs.Stops.{home_reached, start_reached, last_reached, country_reached, addresses, networks, Ends, stop_found, stop_of, Exactly, StopsExactly}
 use Rattle.selection.specs.declared.Choice.TheVariants.{Stop, Country, Network}
 use Rattle.place.specs.declared.Facts.{Facts}
+use Rattle.selection.specs.declared.Stop.TheVariants as At
 
 -- a number that is there
 valued : Option ℕ → Bool
-valued none = false
-valued (some n) = true
+valued None = false
+valued (Some n) = true
 
 has_plmn : Option Plmn → Bool
-has_plmn none = false
-has_plmn (some p) = true
+has_plmn None = false
+has_plmn (Some p) = true
 
-not_there : {n : ℕ} → none ≡ some n → ⊥
+not_there : {n : ℕ} → None ≡ Some n → ⊥
 unfolding valued
 not_there e = false≢true (ap valued e)
 
-plmn_there : {p : Plmn} → some p ≡ none → ⊥
+plmn_there : {p : Plmn} → Some p ≡ None → ⊥
 unfolding has_plmn
 plmn_there e = true≢false (ap has_plmn e)
 
-same_number : {m n : ℕ} → some m ≡ some n → n ≡ m
+same_number : {m n : ℕ} → Some m ≡ Some n → n ≡ m
 same_number e = cc
 
 -- no stop where a name is asked, and one stop at a step that always stops
-asking : Exactly (λ n. ⊥) none
+asking : Exactly (λ n. ⊥) None
 asking = record { only_there = λ n e. not_there e; always_there = λ n h. absurd h }
 
-stopping : (m : ℕ) → Exactly (λ n. n ≡ m) (some m)
-stopping m = record { only_there = λ n e. same_number e; always_there = λ n e. ap some (sym e) }
+stopping : (m : ℕ) → Exactly (λ n. n ≡ m) (Some m)
+stopping m = record { only_there = λ n e. same_number e; always_there = λ n e. ap Some (sym e) }
 
 -- of the same address both or neither are permitted
 same_permitted : (version : ℕ) (held : List Address) (a b : Address) → same_address a b ≡ true → permitted version held a ≡ permitted version held b
@@ -72,19 +73,19 @@ module _ (version : ℕ) (held : List Address) where
   abbrev fails : List Address → Type 0
   fails xs = (a : Address) → stands a xs ≡ true → p a ≡ false
 
-  nothing_left : (k : ℕ) (xs : List Address) → fails xs → left k xs ≡ some 4
+  nothing_left : (k : ℕ) (xs : List Address) → fails xs → left k xs ≡ Some 4
   unfolding place found_at stop_found stands any_of
   nothing_left k [] h = refl
   nothing_left k (x ∷ xs) h =
       let barred-one : p x ≡ false = h x (ap (λ (t : Bool). t || stands x xs) (same_self x)) in
       rw barred-one (nothing_left k xs (λ a e. h a (or_true (same_address a x) (stands a xs) e)))
 
-  none_permitted : (k n : ℕ) (xs : List Address) → left k xs ≡ some n → (n ≡ 4) × fails xs
+  none_permitted : (k n : ℕ) (xs : List Address) → left k xs ≡ Some n → (n ≡ 4) × fails xs
   unfolding place found_at stop_found stands any_of
   none_permitted k n [] e = (same_number e, λ a q. absurd (false≢true q))
   none_permitted k n (x ∷ xs) e = go (p x) refl (none_permitted k n xs)
     where
-      go : (t : Bool) → p x ≡ t → (left k xs ≡ some n → (n ≡ 4) × fails xs) → (n ≡ 4) × fails (x ∷ xs)
+      go : (t : Bool) → p x ≡ t → (left k xs ≡ Some n → (n ≡ 4) × fails xs) → (n ≡ 4) × fails (x ∷ xs)
       go true q rec = absurd (not_there (sym (rw q) ∙ e))
       go false q rec =
           let rest = rec (sym (rw q) ∙ e) in
@@ -98,16 +99,16 @@ module _ (version : ℕ) (held : List Address) where
   unfolding choose
   s5_exactly s xs = record {
     only_there = λ n e. none_permitted (place p xs) n xs e;
-    always_there = λ n h. nothing_left (place p xs) xs h.1 ∙ ap some (sym h.0);
+    always_there = λ n h. nothing_left (place p xs) xs h.1 ∙ ap Some (sym h.0);
   }
 
 module _ (s : Settings) (version : ℕ) (held : List Address) where
   -- S2
-  home_exactly : (home : Plmn) (n : Node) → Exactly (Ends s version held (home_reached n)) (stop_of version held (by_node home n))
+  home_exactly : (home : Plmn) (n : Option Node) → Exactly (Ends s version held (home_reached n)) (stop_of version held (by_node home n))
   unfolding home_reached by_node stop_of
-  home_exactly home Node.None = asking
-  home_exactly home (Node.Name at n) = asking
-  home_exactly home (Node.Address a) = s5_exactly version held s (a ∷ [])
+  home_exactly home None = asking
+  home_exactly home (Some (Node.Name at n)) = asking
+  home_exactly home (Some (Node.Address a)) = s5_exactly version held s (a ∷ [])
 
   -- S3, and S4 up to its question
   abroad_exactly : (t : Bool) (p : Plmn) (mcc : ℕ) → Exactly (λ n. ⊥) (stop_of version held (cond t (Network p) (Country mcc)))
@@ -119,8 +120,8 @@ module _ (s : Settings) (version : ℕ) (held : List Address) where
   unfolding start_reached start_at at_home abroad stop_of
   place_exactly Unknown r = stopping 1
   place_exactly Home r = home_exactly s.home s.node
-  place_exactly (Abroad mcc) none = asking
-  place_exactly (Abroad mcc) (some p) = abroad_exactly (direct s p) p mcc
+  place_exactly (Abroad mcc) None = asking
+  place_exactly (Abroad mcc) (Some p) = abroad_exactly (direct s p) p mcc
 
   -- S4 where none is listed
   last_exactly : (l : List Preferred) → Exactly (Ends s version held (last_reached l s.node)) (stop_of version held (ask_or (network_of (best l)) (at_home s)))
@@ -129,24 +130,24 @@ module _ (s : Settings) (version : ℕ) (held : List Address) where
   last_exactly (x ∷ xs) = asking
 
   -- S4 where one or more are listed: a name is asked where one of three picks finds a network
-  picked : (o₁ o₂ o₃ : Option Plmn) (n : ℕ) → stop_of version held (ask_or o₁ (ask_or o₂ (ask_or o₃ (Stop 3)))) ≡ some n → (n ≡ 3) × (o₃ ≡ none)
+  picked : (o₁ o₂ o₃ : Option Plmn) (n : ℕ) → stop_of version held (ask_or o₁ (ask_or o₂ (ask_or o₃ (Stop At.Barred)))) ≡ Some n → (n ≡ 3) × (o₃ ≡ None)
   unfolding ask_or stop_of
-  picked (some p) o₂ o₃ n e = absurd (not_there e)
-  picked none (some p) o₃ n e = absurd (not_there e)
-  picked none none (some p) n e = absurd (not_there e)
-  picked none none none n e = (same_number e, refl)
+  picked (Some p) o₂ o₃ n e = absurd (not_there e)
+  picked None (Some p) o₃ n e = absurd (not_there e)
+  picked None None (Some p) n e = absurd (not_there e)
+  picked None None None n e = (same_number e, refl)
 
 module _ (s : Settings) where
   -- every listed network is barred
   abbrev barred_all : List Plmn → Type 0
   barred_all ps = (p : Plmn) → among p ps ≡ true → unbarred s p ≡ false
 
-  none_free : (ps : List Plmn) → first (unbarred s) ps ≡ none → barred_all ps
+  none_free : (ps : List Plmn) → first (unbarred s) ps ≡ None → barred_all ps
   unfolding first among any_of
   none_free [] e = λ p h. absurd (false≢true h)
   none_free (q ∷ qs) e = go (unbarred s q) refl (none_free qs)
     where
-      go : (t : Bool) → unbarred s q ≡ t → (first (unbarred s) qs ≡ none → barred_all qs) → barred_all (q ∷ qs)
+      go : (t : Bool) → unbarred s q ≡ t → (first (unbarred s) qs ≡ None → barred_all qs) → barred_all (q ∷ qs)
       go true m rec = absurd (plmn_there {p = q} (sym (rw m) ∙ e))
       go false m rec = λ p h. first_or_true p (same_plmn p q) refl h (rec (sym (rw m) ∙ e) p)
         where
@@ -155,7 +156,7 @@ module _ (s : Settings) where
           first_or_true p false k h later = later h
 
   module _ (ps : List Plmn) (all : barred_all ps) where
-    free_none : (qs : List Plmn) → ((p : Plmn) → among p qs ≡ true → among p ps ≡ true) → first (unbarred s) qs ≡ none
+    free_none : (qs : List Plmn) → ((p : Plmn) → among p qs ≡ true → among p ps ≡ true) → first (unbarred s) qs ≡ None
     unfolding first among any_of
     free_none [] within = refl
     free_none (q ∷ qs) within =
@@ -169,10 +170,10 @@ module _ (s : Settings) where
         go true e = all p e
         go false e = refl
 
-    registered_none : (r : Option Plmn) → if_listed s r ps ≡ none
+    registered_none : (r : Option Plmn) → if_listed s r ps ≡ None
     unfolding if_listed
-    registered_none none = refl
-    registered_none (some p) = rw (listed_none p)
+    registered_none None = refl
+    registered_none (Some p) = rw (listed_none p)
 
   module _ (q : Plmn) (qs : List Plmn) (place : Place) (all : barred_all (q ∷ qs)) where
     eligible_none : (l : List Preferred) → only (eligible s (q ∷ qs) place) l ≡ []
@@ -180,7 +181,7 @@ module _ (s : Settings) where
     eligible_none [] = refl
     eligible_none (x ∷ l) = rw (listed_none (q ∷ qs) all (plmn_in x)) (eligible_none l)
 
-    ranked_none : ranked s (q ∷ qs) place ≡ none
+    ranked_none : ranked s (q ∷ qs) place ≡ None
     unfolding ranked best network_of
     ranked_none = rw (eligible_none s.plmns)
 
@@ -192,7 +193,7 @@ module _ (s : Settings) where
           let p = picked s version held (if_listed s (registered s f) (q ∷ qs)) (ranked s (q ∷ qs) f.place) (first (unbarred s) (q ∷ qs)) n e in
           (p.0, none_free (q ∷ qs) p.1);
       always_there = λ n h.
-          rw (registered_none (q ∷ qs) h.1 (registered s f), ranked_none q qs f.place h.1, free_none (q ∷ qs) h.1 (q ∷ qs) (λ p e. e)) (ap some (sym h.0));
+          rw (registered_none (q ∷ qs) h.1 (registered s f), ranked_none q qs f.place h.1, free_none (q ∷ qs) h.1 (q ∷ qs) (λ p e. e)) (ap Some (sym h.0));
     }
 
 pub stops_exactly : StopsExactly
@@ -205,6 +206,6 @@ stops_exactly = record {
   where
     go : (s : Settings) (f : Facts) (held : List Address) (answer : Option (List Plmn))
         → Exactly (Ends s f.version held (country_reached s f.place answer)) (stop_of f.version held (country s f answer))
-    go s f held none = stopping 2
-    go s f held (some []) = last_exactly s f.version held (only (eligible s [] f.place) s.plmns)
-    go s f held (some (q ∷ qs)) = listed_exactly s f.version held f q qs
+    go s f held None = stopping 2
+    go s f held (Some []) = last_exactly s f.version held (only (eligible s [] f.place) s.plmns)
+    go s f held (Some (q ∷ qs)) = listed_exactly s f.version held f q qs

@@ -8,7 +8,7 @@ use Rattle.selection.specs.declared.Choice.TheVariants.{Stop, Country, Text, Net
 
 -- the name that is built, none where it lies in the text or nothing is asked
 unfoldable pub built : Choice → List ℕ
-built (Stop n) = []
+built (Stop at) = []
 built (Country mcc) = visited_name mcc
 built (Text at n) = []
 built (Network p) = operator_name p
@@ -16,7 +16,7 @@ built (Address a) = []
 
 -- the name that is asked, none where nothing is
 unfoldable pub asked : List ℕ → Choice → List ℕ
-asked text (Stop n) = []
+asked text (Stop at) = []
 asked text (Country mcc) = visited_name mcc
 asked text (Text at n) = part text at n
 asked text (Network p) = operator_name p
@@ -24,7 +24,7 @@ asked text (Address a) = []
 
 -- a name in the text lies within it
 abbrev pub TextWithin : List ℕ → Choice → Type 0
-TextWithin text (Stop n) = Unit {0}
+TextWithin text (Stop at) = Unit {0}
 TextWithin text (Country mcc) = Unit {0}
 TextWithin text (Text at n) = at + n ≤ length text
 TextWithin text (Network p) = Unit {0}

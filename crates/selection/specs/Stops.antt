@@ -1,6 +1,5 @@
 -- The claim `StopsExactly`: selection stops exactly where the step that it reached has nothing that is permitted, and with that step's number.
-use Rattle.std.specs.Prelude.{ℕ, true, false, List, [], ◌∷◌, ◌≡◌}
-use Rattle.std.proofs.Math.Option.{Option, none, some}
+use Rattle.std.specs.Prelude.{ℕ, true, false, List, [], ◌∷◌, ◌≡◌, Option, None, Some}
 use Rattle.octets.specs.Row.{only}
 use Rattle.network.specs.Plmn.{among}
 use Rattle.network.specs.declared.Plmn.{Plmn}
@@ -16,6 +15,7 @@ use Rattle.gateway.specs.Gateway.{choose}
 use Rattle.gateway.specs.declared.Found.{Found}
 use Rattle.gateway.specs.declared.Found.TheVariants.{Chosen, Nothing}
 use Rattle.selection.specs.Selection.{start, country}
+use Rattle.selection.specs.Stop.{stop_number}
 use Rattle.selection.specs.declared.Choice.{Choice}
 use Rattle.selection.specs.declared.Choice.TheVariants.{Stop, Country, Text, Network}
 use Rattle.place.specs.declared.Facts.{Facts}
@@ -33,10 +33,10 @@ pub data Reached : Type 0 where
   addresses : List Address → Reached
 
 -- S2 asks a name unless `node` gives an address
-unfoldable pub home_reached : Node → Reached
-home_reached Node.None = asks
-home_reached (Node.Name at n) = asks
-home_reached (Node.Address a) = addresses (a ∷ [])
+unfoldable pub home_reached : Option Node → Reached
+home_reached None = asks
+home_reached (Some (Node.Name at n)) = asks
+home_reached (Some (Node.Address a)) = addresses (a ∷ [])
 
 unfoldable pub start_reached : Settings → Place → Reached
 start_reached s Unknown = lost
@@ -44,14 +44,14 @@ start_reached s Home = home_reached s.node
 start_reached s (Abroad mcc) = asks
 
 -- where none is listed, a network with a `plmn` record is asked for, and S2 is the last resort
-unfoldable pub last_reached : List Preferred → Node → Reached
+unfoldable pub last_reached : List Preferred → Option Node → Reached
 last_reached (x ∷ xs) n = asks
 last_reached [] n = home_reached n
 
 unfoldable pub country_reached : Settings → Place → Option (List Plmn) → Reached
-country_reached s place none = unanswered
-country_reached s place (some []) = last_reached (only (eligible s [] place) s.plmns) s.node
-country_reached s place (some (p ∷ ps)) = networks (p ∷ ps)
+country_reached s place None = unanswered
+country_reached s place (Some []) = last_reached (only (eligible s [] place) s.plmns) s.node
+country_reached s place (Some (p ∷ ps)) = networks (p ∷ ps)
 
 -- a step has nothing that is permitted, and n is its number
 module _ (s : Settings) (version : ℕ) (held : List Address) where
@@ -64,20 +64,20 @@ module _ (s : Settings) (version : ℕ) (held : List Address) where
 
 -- the number with which a call stops, an address being treated as an answer list of one
 unfoldable pub stop_found : Found → Option ℕ
-stop_found (Chosen a k) = none
-stop_found (Nothing k) = some 4
+stop_found (Chosen a k) = None
+stop_found (Nothing k) = Some 4
 
 unfoldable pub stop_of : ℕ → List Address → Choice → Option ℕ
-stop_of version held (Stop n) = some n
-stop_of version held (Country mcc) = none
-stop_of version held (Text at n) = none
-stop_of version held (Network p) = none
+stop_of version held (Stop at) = Some (stop_number at)
+stop_of version held (Country mcc) = None
+stop_of version held (Text at n) = None
+stop_of version held (Network p) = None
 stop_of version held (Choice.Address a) = stop_found (choose version held (a ∷ []))
 
 -- a call stops with a number exactly where its step ends with it
 pub record Exactly (ends : ℕ → Type 0) (stop : Option ℕ) : Type 0 where
-  pub only_there : (n : ℕ) → stop ≡ some n → ends n
-  pub always_there : (n : ℕ) → ends n → stop ≡ some n
+  pub only_there : (n : ℕ) → stop ≡ Some n → ends n
+  pub always_there : (n : ℕ) → ends n → stop ≡ Some n
 
 pub record StopsExactly : Type 0 where
   pub at_start : (s : Settings) (f : Facts) (held : List Address)

@@ -1,21 +1,24 @@
 -- What a packet comes to on the line that a call finds, where it is due and where it is not.
-use Rattle.std.specs.Prelude.{Bool, true, false, cond, []}
+use Rattle.std.specs.Prelude.{true, false, [], ◌≡◌, Some, Result, Ok, Err}
 use Rattle.eap.specs.declared.Packet.{Packet}
-use Rattle.record.specs.Line.{Line}
-use Rattle.rules.specs.Life.{Outcome, becomes, packet_taken}
+use Rattle.record.specs.Line.{Line, line_of}
+use Rattle.refusal.specs.declared.Refusal.{Refusal}
+use Rattle.rules.specs.Life.{packet_taken}
 use Rattle.rules.specs.Refusals.{is_due}
-use Rattle.rules.specs.declared.Action.TheVariants as Action
-use Rattle.step.specs.Step.{Gives}
-use Rattle.step.specs.declared.Stepped.{Stepped}
+use Rattle.step.specs.declared.Done.{Done}
 
--- by whether a packet is due, of a line and of what a call finds of it: the line and the action of its outcome, which do not depend on its octets,
--- or the line as it was
-unfoldable pub packet_outcome : Line → Line → Packet → Bool → Outcome
-packet_outcome x found p true = packet_taken found [] p
-packet_outcome x found p false = becomes x Action.Nothing
+-- a packet that is due leaves the line and the action of its outcome, which do not depend on its octets
+pub record Due (done : Done) (found : Line) (p : Packet) : Type 0 where
+  pub due : is_due (Some p) found.phase ≡ true
+  pub line_is : line_of done.line ≡ (packet_taken found [] (Some p)).line
+  pub action_is : done.action ≡ (packet_taken found [] (Some p)).action
 
--- the code's answer to a packet that is taken apart: 10 where it is not due
-abbrev pub Takes : Stepped → Line → Line → Packet → Type 0
-Takes r x found p =
-    let o = packet_outcome x found p (is_due p found.phase) in
-    Gives r (cond (is_due p found.phase) 0 10) o.line o.action
+-- a packet that is not due is refused
+pub record NotDue (r : Refusal) (found : Line) (p : Packet) : Type 0 where
+  pub not_due : is_due (Some p) found.phase ≡ false
+  pub refused : r ≡ Refusal.Phase
+
+-- what a step comes to with a packet on the line that a call finds
+abbrev pub Takes : Result Done Refusal → Line → Packet → Type 0
+Takes (Ok done) found p = Due done found p
+Takes (Err r) found p = NotDue r found p

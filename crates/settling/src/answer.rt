@@ -22,7 +22,7 @@ pub fn numbers(action: Action) -> [u64; 12]
 {
     match action {
         Action::Nothing => [0; 12],
-        Action::Stopped(n, k) => [1, n, k as u64, 0, 0, 0, 0, 0, 0, 0, 0, 0],
+        Action::Stopped(stop, k) => [1, stop.number(), k as u64, 0, 0, 0, 0, 0, 0, 0, 0, 0],
         Action::AskCountry(n) => [2, 0, 0, 2, 0, n as u64, 0, 0, 0, 0, 0, n as u64],
         Action::AskText(at, n) => [3, 0, 0, 1, at as u64, n as u64, 0, 0, 0, 0, 0, 0],
         Action::AskBuilt(n) => [3, 0, 0, 2, 0, n as u64, 0, 0, 0, 0, 0, n as u64],
@@ -34,8 +34,8 @@ pub fn numbers(action: Action) -> [u64; 12]
         Action::SendResponse(n) => [9, 0, 0, 0, 0, 0, 0, 0, 0, 0, 0, n as u64],
         Action::SendAuth => [10, 0, 0, 0, 0, 0, 0, 0, 0, 0, 0, 0],
         Action::Live => [11, 0, 0, 0, 0, 0, 0, 0, 0, 0, 0, 0],
-        Action::Released(ended) => [12, 0, 0, 0, 0, 0, 0, 0, 0, ended, 0, 0],
-        Action::ErrorUp(ended, n) => [13, 0, 0, 0, 0, 0, 0, 0, 0, ended, n, 0],
+        Action::Released(ended) => [12, 0, 0, 0, 0, 0, 0, 0, 0, u64::from(ended), 0, 0],
+        Action::ErrorUp(ended, n) => [13, 0, 0, 0, 0, 0, 0, 0, 0, u64::from(ended), n, 0],
         Action::Listed(n) => [0, 0, 0, 0, 0, 0, 0, 0, 0, 0, 0, n as u64],
     }
 }

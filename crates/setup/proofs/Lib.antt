@@ -1,3 +1,3 @@
 -- The laws that the proofs of this crate share.
-pub mod Addressed
-pub mod Finishing
+mod Addressed
+mod Finishing

@@ -1,8 +1,8 @@
 -- Addresses that are told apart by their keys.
+use Rattle.std.specs.Prelude.{Option, None, Some}
 use Prim.Native.Nat.{ℕ, ◌+◌, ◌*◌, ◌≤◌, ◌<◌}
 use mathlib.Core.Bool.{true, false, not}
 use mathlib.Core.List.{List, []}
-use mathlib.Core.Option.{Option, none, some}
 use mathlib.Core.Path.{◌≡◌, refl, sym, ap, ◌∙◌}
 use native.Mathlib.Omega.{arith}
 use lib.Dec.{leb}
@@ -87,8 +87,8 @@ module _ (l : List ℕ) (m : ℕ) where
   none_held e = rw e (go (chosen (phase_from l 5)))
     where
       go : (a : Option Address) → true ≡ chosen_free a []
-      go none = refl
-      go (some a) = refl
+      go None = refl
+      go (Some a) = refl
 
   -- compared one by one
   pub held_twice : different (held_in l m) ≡ false → false ≡ apart l m

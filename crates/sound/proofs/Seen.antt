@@ -1,5 +1,5 @@
 -- A flag for each number of a pair: set where a record passed has the pair.
-use Prim.Native.Nat.{ℕ, ◌+◌, ◌*◌, ◌≤◌, ◌<◌}
+use Prim.Native.Nat.{ℕ, ◌+◌, ◌≤◌, ◌<◌}
 use mathlib.Core.Bool.{Bool, true, false, not, false≢true, not-not}
 use mathlib.Core.List.{List}
 use mathlib.Core.Path.{◌≡◌, refl, sym, ap, ◌∙◌}
@@ -9,14 +9,14 @@ use lib.ListN.{get_or, set, replicate, get_or-replicate, length-set}
 use lib.Seq.{get_or-set_same, get_or-set_other}
 use borrow.Author.Tests.{eq-eqb, ne_eqb}
 use Rattle.octets.specs.Digits.{field}
-use Rattle.octets.specs.Part.{part, zeros_at}
+use Rattle.octets.specs.Part.{zeros_at}
 use Rattle.octets.specs.Search.{all}
 use Rattle.octets.proofs.Search.{all_fails, and_false, and_last, either, never_passes}
 use Rattle.record.specs.Octets.{record_length}
 use Rattle.record.specs.Sound.{is_record, most_pairs}
 use Rattle.sound.specs.Seen.{Passes, Seen}
 use Rattle.table.specs.Table.{has_pair, lacks_pair, pair_at, pair_once, slot, slot_sound}
-use Rattle.table.proofs.Views.{paired, pairless, sound_pair}
+use Rattle.table.proofs.Views.{own_pair, own_zeros, paired, pairless, sound_pair}
 
 pub none_seen : (l : List ℕ) → Seen l 0 (replicate 65 false)
 unfolding all
@@ -32,16 +32,15 @@ module _ (l : List ℕ) (i p : ℕ) where
   unfolding all lacks_pair has_pair
   lacks h = rw (add-one, ne_eqb (pair_at l i) p h) (and_last (all i (lacks_pair l p)))
 
-module _ (l : List ℕ) (at i : ℕ) (place : at ≡ record_length * i) {seen : List Bool} (before : Seen l i seen) (pair : ℕ) (reads : pair ≡ field l at 1) where
+module _ (l : List ℕ) (i : ℕ) (s : List ℕ) (is : s ≡ slot l i) {seen : List Bool} (before : Seen l i seen) (pair : ℕ) (reads : pair ≡ field s 0 1) where
   own : pair ≡ pair_at l i
-  unfolding pair_at
-  own = reads ∙ ap (λ (k : ℕ). field l k 1) place
+  own = reads ∙ ap (λ (t : List ℕ). field t 0 1) is ∙ own_pair l i
 
   -- a free record flags no pair
-  pub free_passes : pair ≡ 0 → (r : Bool) → r ≡ zeros_at l at record_length → Passes l i r seen
+  pub free_passes : pair ≡ 0 → (r : Bool) → r ≡ zeros_at s 0 record_length → Passes l i r seen
   unfolding pair_once
   free_passes e r zeros = record {
-    tells = zeros ∙ ap (λ (k : ℕ). zeros_at l k record_length) place ∙ pairless l i (sym own ∙ e) ∙ sym (rw (sym own ∙ e) (and_last (slot_sound l i)));
+    tells = zeros ∙ ap (λ (t : List ℕ). zeros_at t 0 record_length) is ∙ own_zeros l i ∙ pairless l i (sym own ∙ e) ∙ sym (rw (sym own ∙ e) (and_last (slot_sound l i)));
     flags = λ _. record {
       sized = before.sized;
       flag = λ p from to. before.flag p from to ∙ ap not (sym (lacks l i p (λ q. omega (arith, own))));
@@ -67,10 +66,9 @@ module _ (l : List ℕ) (at i : ℕ) (place : at ≡ record_length * i) {seen : 
       flags = λ q. absurd (false≢true q);
     }
 
-    pub used_passes : get_or seen pair false ≡ false → (r : Bool) (s : List ℕ) → r ≡ is_record s → s ≡ part l at record_length → Passes l i r (set seen pair true)
-    unfolding slot
-    used_passes e r s sound q = record {
-      tells = sound ∙ paired l i (λ z. used (own ∙ z)) s (q ∙ ap (λ (k : ℕ). part l k record_length) place) ∙ sym (rw (sym flag_tells ∙ ap not e) (and_last (slot_sound l i)));
+    pub used_passes : get_or seen pair false ≡ false → (r : Bool) → r ≡ is_record s → Passes l i r (set seen pair true)
+    used_passes e r sound = record {
+      tells = sound ∙ paired l i (λ z. used (own ∙ z)) s is ∙ sym (rw (sym flag_tells ∙ ap not e) (and_last (slot_sound l i)));
       flags = λ _. record {
         sized = length-set seen pair true ∙ before.sized;
         flag = λ p from to. either p pair

@@ -1,13 +1,12 @@
 -- What the rules see of a phase whose address and place facts are blank, and what an event that leaves both alone makes of such a phase.
-use Prim.Native.Nat.{ℕ, zero, suc, ◌≤◌}
+use Rattle.std.specs.Prelude.{Option, None, Some}
+use Prim.Native.Nat.{ℕ, ◌≤◌}
 use mathlib.Core.Bool.{Bool, true, false, false≢true}
 use mathlib.Core.List.{List, [], ◌∷◌, ◌++◌, map}
-use mathlib.Core.Option.{Option, none, some}
 use mathlib.Core.Path.{◌≡◌, refl, ap, ◌∙◌}
 use native.Mathlib.Omega.{arith}
 use lib.Dec.{eqb}
-use lib.ListN.{length, take, get_or}
-use lib.Seq.{take-nil}
+use lib.ListN.{length}
 use Rattle.address.specs.Address.{held_addresses}
 use Rattle.address.specs.declared.Address.{Address}
 use Rattle.address.specs.declared.Hold.{Hold}
@@ -21,7 +20,7 @@ use Rattle.phase.specs.declared.Phase.{Phase}
 use Rattle.phase.specs.declared.Phase.TheVariants.{Idle, Country, Name, Chosen, Init, Auth, Eap, Sure, Live}
 use Rattle.phase.specs.declared.Turn.TheVariants.{First, Owed, Answered}
 use Rattle.place.specs.declared.Facts.{Facts}
-use Rattle.record.specs.Changes.{in_phase, with_holds}
+use Rattle.record.specs.Changes.{first_end, hold_until, in_phase, with_holds}
 use Rattle.record.specs.Line.{Line}
 use Rattle.timer.specs.declared.Timer.{Timer}
 use Rattle.rules.specs.Life.{Outcome, address_answered, becomes, chosen_hold, congested, ended, finished, goes, onward, packet_taken, replied, timer_hold}
@@ -33,17 +32,17 @@ use Rattle.rules.proofs.Goes.{found_goes, onto, phased}
 
 -- an address and place facts, where they are there, made blank
 unfoldable pub blank : Option Address → Option Address
-blank none = none
-blank (some a) = some nowhere
+blank None = None
+blank (Some a) = Some nowhere
 
 unfoldable pub blank_facts : Option Facts → Option Facts
-blank_facts none = none
-blank_facts (some f) = some (bare_facts f.version)
+blank_facts None = None
+blank_facts (Some f) = Some (bare_facts f.version)
 
 -- the address that is there, or the blank one
 unfoldable pub address_or : Option Address → Address
-address_or none = nowhere
-address_or (some a) = a
+address_or None = nowhere
+address_or (Some a) = a
 
 -- what a bare phase has of the whole one
 pub record Bared (p : Phase) : Type 0 where
@@ -65,7 +64,7 @@ bared (Sure a) = record { stage = refl; turn = refl; address = refl; facts = ref
 bared (Live a) = record { stage = refl; turn = refl; address = refl; facts = refl }
 
 -- a phase underway has an address
-pub underway_address : (p : Phase) → underway p ≡ true → chosen p ≡ some (address_or (chosen p))
+pub underway_address : (p : Phase) → underway p ≡ true → chosen p ≡ Some (address_or (chosen p))
 unfolding underway is_in chosen address_or
 underway_address Idle h = absurd (false≢true h)
 underway_address (Country f) h = absurd (false≢true h)
@@ -101,14 +100,14 @@ module _ (p : Phase) where
   unfolding restored
   idle_for = record { continues = ends; restores = refl }
 
-  pub onward_for : (f : Address → Phase) → ((b : Address) → chosen (f b) ≡ some b) → ((b : Address) → restored p (f b) ≡ placed f b (chosen p))
+  pub onward_for : (f : Address → Phase) → ((b : Address) → chosen (f b) ≡ Some b) → ((b : Address) → restored p (f b) ≡ placed f b (chosen p))
       → For p (onward f (chosen p)) (onward f (chosen (bare p)))
   unfolding onward blank placed
   onward_for f has restores = rw (bared p).address (go (chosen p) refl)
     where
       go : (o : Option Address) → chosen p ≡ o → For p (onward f o) (onward f (blank o))
-      go none e = idle_for
-      go (some a) e = record { continues = keeps e (has nowhere); restores = restores nowhere ∙ ap (placed f nowhere) e }
+      go None e = idle_for
+      go (Some a) e = record { continues = keeps e (has nowhere); restores = restores nowhere ∙ ap (placed f nowhere) e }
 
 -- the line x in the phase of another, restored to its own
 abbrev pub restoring : Line → Line → Line
@@ -130,19 +129,19 @@ module _ (x y : Line) where
   unfolding in_phase
   changes f a part written = record { says = rw f.restores; continues = f.continues }
 
-  pub packet_moves : (packet : List ℕ) (k : Packet) → Moves x (restoring x) (packet_taken x packet k) (packet_taken seen packet k)
+  pub packet_moves : (packet : List ℕ) (k : Option Packet) → Moves x (restoring x) (packet_taken x packet k) (packet_taken seen packet k)
   unfolding packet_taken Life.keeps goes in_phase chosen restored
-  packet_moves packet (Packet.Start i) = changes (onward_for _ (λ a. Eap a (First i)) (λ b. refl) (λ b. refl)) _ _ _
-  packet_moves packet (Packet.NasRequest i at n) = changes (onward_for _ (λ a. Eap a (Owed i)) (λ b. refl) (λ b. refl)) _ _ _
-  packet_moves packet (Packet.Success i) = changes (onward_for _ Sure (λ b. refl) (λ b. refl)) _ _ _
-  packet_moves packet (Packet.NasResponse i p m at n) = changes (idle_for _) _ _ _
-  packet_moves packet (Packet.Stop i) = changes (idle_for _) _ _ _
-  packet_moves packet Packet.Other = changes (idle_for _) _ _ _
+  packet_moves packet (Some (Packet.Start i)) = changes (onward_for _ (λ a. Eap a (First i)) (λ b. refl) (λ b. refl)) _ _ _
+  packet_moves packet (Some (Packet.NasRequest i at n)) = changes (onward_for _ (λ a. Eap a (Owed i)) (λ b. refl) (λ b. refl)) _ _ _
+  packet_moves packet (Some (Packet.Success i)) = changes (onward_for _ Sure (λ b. refl) (λ b. refl)) _ _ _
+  packet_moves packet (Some (Packet.NasResponse i p m at n)) = changes (idle_for _) _ _ _
+  packet_moves packet (Some (Packet.Stop i)) = changes (idle_for _) _ _ _
+  packet_moves packet None = changes (idle_for _) _ _ _
 
   pub replied_moves : (parameters nas : List ℕ) (o : Option ℕ) → Moves x (restoring x) (replied x parameters nas o) (replied seen parameters nas o)
   unfolding replied goes in_phase chosen restored
-  replied_moves parameters nas none = changes (idle_for _) _ _ _
-  replied_moves parameters nas (some i) = changes (onward_for _ (λ a. Eap a (Answered i)) (λ b. refl) (λ b. refl)) _ _ _
+  replied_moves parameters nas None = changes (idle_for _) _ _ _
+  replied_moves parameters nas (Some i) = changes (onward_for _ (λ a. Eap a (Answered i)) (λ b. refl) (λ b. refl)) _ _ _
 
   pub finished_moves : (b : Bool) → Moves x (restoring x) (finished x b) (finished seen b)
   unfolding finished Life.keeps goes in_phase chosen restored
@@ -152,18 +151,18 @@ module _ (x y : Line) where
   -- the address answer looks at the local IP version and the holds
   pub answer_goes : (o : Option Facts) (list : List Address) → address_answered x o list ≡ onto (phased x) (address_answered (with_holds seen x.holds) (blank_facts o) list)
   unfolding address_answered goes in_phase with_holds blank_facts
-  answer_goes none list = refl
-  answer_goes (some f) list = found_goes x (with_holds seen x.holds) (choose f.version (held_addresses x.holds) list)
+  answer_goes None list = refl
+  answer_goes (Some f) list = found_goes x (with_holds seen x.holds) (choose f.version (held_addresses x.holds) list)
 
 -- a packet is due in the bare phase where it is in the whole one
-pub bare_due : (k : Packet) (p : Phase) → is_due k (bare p) ≡ is_due k p
+pub bare_due : (k : Option Packet) (p : Phase) → is_due k (bare p) ≡ is_due k p
 unfolding is_due
-bare_due (Packet.Start i) p = bare_in p Stage.auth
-bare_due (Packet.NasRequest i at n) p = rw (bared p).turn
-bare_due (Packet.Success i) p = rw (bared p).turn
-bare_due (Packet.NasResponse i q m at n) p = refl
-bare_due (Packet.Stop i) p = refl
-bare_due Packet.Other p = refl
+bare_due (Some (Packet.Start i)) p = bare_in p Stage.auth
+bare_due (Some (Packet.NasRequest i at n)) p = rw (bared p).turn
+bare_due (Some (Packet.Success i)) p = rw (bared p).turn
+bare_due (Some (Packet.NasResponse i q m at n)) p = refl
+bare_due (Some (Packet.Stop i)) p = refl
+bare_due None p = refl
 
 -- the same holds of another address
 unfoldable pub renamed : Address → List Hold → List Hold
@@ -172,18 +171,18 @@ renamed a = map (λ (h : Hold). record { address = a; end = h.end })
 -- the hold that a timer makes of the chosen address, by the one that it makes of a blank one
 chosen_renamed : (time : ℕ) (t : Timer) (o : Option Address) → chosen_hold time t o ≡ renamed (address_or o) (chosen_hold time t (blank o))
 unfolding chosen_hold timer_hold renamed address_or blank
-chosen_renamed time t none = refl
-chosen_renamed time Timer.None (some a) = refl
-chosen_renamed time (Timer.Seconds n) (some a) = refl
-chosen_renamed time Timer.Deactivated (some a) = refl
+chosen_renamed time t None = refl
+chosen_renamed time Timer.None (Some a) = refl
+chosen_renamed time (Timer.Seconds n) (Some a) = refl
+chosen_renamed time Timer.Deactivated (Some a) = refl
 
 -- a timer makes one hold at most
 one_hold : (time : ℕ) (t : Timer) (o : Option Address) → length (chosen_hold time t o) ≤ 1
 unfolding chosen_hold timer_hold
-one_hold time t none = omega arith
-one_hold time Timer.None (some a) = omega arith
-one_hold time (Timer.Seconds n) (some a) = omega arith
-one_hold time Timer.Deactivated (some a) = omega arith
+one_hold time t None = omega arith
+one_hold time Timer.None (Some a) = omega arith
+one_hold time (Timer.Seconds n) (Some a) = omega arith
+one_hold time Timer.Deactivated (Some a) = omega arith
 
 module _ (x : Line) where
   -- a line of which only the time and the bare phase are known
@@ -202,14 +201,9 @@ module _ (x : Line) where
   unfolding congested
   congested_one t = one_hold x.time t (chosen (bare x.phase))
 
--- where a list gives one hold at most, it has the end of the first
-pub renamed_first : (a : Address) (hs : List Hold) (d : Hold) (count : ℕ) → count ≤ length hs → length (take count hs) ≤ 1
-    → renamed a (take count hs) ≡ take count (record { address = a; end = (get_or hs 0 d).end } ∷ [])
+-- one hold at most has the end of the first
+pub renamed_first : (a : Address) (hs : List Hold) → length hs ≤ 1 → renamed a hs ≡ hold_until a (first_end hs)
 unfolding renamed
-renamed_first a hs d zero within one = refl
-renamed_first a [] d (suc n) within one = absurd (omega arith)
-renamed_first a (h ∷ hs) d (suc n) within one = go (take n hs) one
-  where
-    go : (l : List Hold) → length (h ∷ l) ≤ 1 → renamed a (h ∷ l) ≡ record { address = a; end = h.end } ∷ take n []
-    go [] k = simp take-nil
-    go (g ∷ l) k = absurd (omega arith)
+renamed_first a [] one = refl
+renamed_first a (h ∷ []) one = refl
+renamed_first a (h ∷ g ∷ hs) one = absurd (omega arith)

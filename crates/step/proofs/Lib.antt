@@ -3,3 +3,4 @@ pub mod Bare
 pub mod Running
 pub mod Steps
 pub mod Views
+pub mod Shown

@@ -1,13 +1,12 @@
 -- What `run` makes of a timed call is what its event comes to.
+use Rattle.std.specs.Prelude.{Option, Some}
 use Prim.Native.Nat.{ℕ, zero, suc}
 use mathlib.Core.Bool.{true, false}
 use mathlib.Core.List.{List, []}
-use mathlib.Core.Option.{Option, some}
 use mathlib.Core.Path.{◌≡◌, refl, sym, ap, ◌∙◌}
 use lib.Dec.{ltb}
 use Rattle.octets.specs.Part.{padded, zeros}
 use Rattle.octets.specs.Refusal.{refusal}
-use Rattle.octets.specs.Row.{is_some}
 use Rattle.record.specs.Changes.{current}
 use Rattle.record.specs.Line.{Line}
 use Rattle.table.specs.Table.{is_table}
@@ -41,17 +40,17 @@ module _ (tenant line time : ℕ) (e : Event) (l : List ℕ) (x : Line) where
   by_number (suc n) =
       ap (λ (k : ℕ). record { answer = record { refusal = suc n; numbers = zeros number_count; part = []; buffer = zeros k }; table = l }) (sym (less_none (event_room e)))
 
-  module _ (v : View) (seen : line_seen v line ≡ some x) where
+  module _ (v : View) (seen : line_seen v line ≡ Some x) where
     line_is : line_found line time v ≡ found
     unfolding line_found line_or
     line_is = ap (λ (o : Option Line). current time (line_or o)) seen
 
     -- where none of the first seven refusals applies, the number is the event's
     number_is : v.sound ≡ true → is_no_pair c ≡ false → is_short c ≡ false → ltb time x.time ≡ false → refusal (refusals c v) ≡ own
-    unfolding refusal refusals is_open_already is_not_open is_full is_early event_refusals line_found line_or is_some
+    unfolding refusal refusals is_open_already is_not_open is_full is_early event_refusals line_found line_or
     number_is sound pair_is long risen = rw (seen, sound, pair_is, long, risen)
 
-  pub effect_run : is_table l ≡ true → is_no_pair c ≡ false → is_short c ≡ false → line_seen (view_in c l) line ≡ some x → ltb time x.time ≡ false
+  pub effect_run : is_table l ≡ true → is_no_pair c ≡ false → is_short c ≡ false → line_seen (view_in c l) line ≡ Some x → ltb time x.time ≡ false
       → run c l ≡ result_by (effect e time x) (pair_of tenant line) l
   unfolding run step_of step view_in view_of effect
   effect_run sound pair_is long seen risen =

@@ -1,5 +1,6 @@
 -- What a step has to show: by the tests that it has made, the refusal number; by that number, what it answers.
-use Prim.Native.Nat.{ℕ, suc, ◌-◌}
+use Rattle.std.specs.Prelude.{Err}
+use Prim.Native.Nat.{ℕ, zero, suc, ◌-◌, ◌≤◌}
 use mathlib.Core.Bool.{Bool, true, false}
 use mathlib.Core.List.{List, []}
 use mathlib.Core.Path.{◌≡◌, refl, sym, ap, ◌∙◌}
@@ -8,15 +9,16 @@ use lib.Dec.{ltb}
 use Rattle.octets.specs.Part.{padded, zeros}
 use Rattle.octets.specs.Refusal.{refusal}
 use Rattle.record.specs.Changes.{current}
-use Rattle.record.specs.Line.{Line, line_of}
-use Rattle.record.specs.declared.Record.{Record}
+use Rattle.record.specs.Line.{Line}
+use Rattle.refusal.specs.Numbers.{number_of}
+use Rattle.refusal.specs.declared.Refusal.{Refusal}
+use Rattle.refusal.proofs.Numbers.{some_number}
 use Rattle.rules.specs.Answer.{event_room}
 use Rattle.rules.specs.Call.{Event, last_time}
 use Rattle.rules.specs.Life.{Outcome, becomes, outcome}
 use Rattle.rules.specs.Refusals.{has_no_room, is_allowed, is_held_full, is_malformed, is_out_of_range, is_spi_taken, refusals_of}
 use Rattle.rules.specs.declared.Action.{Action}
-use Rattle.step.specs.Step.{Gives, effect, effect_in, outcome_by}
-use Rattle.step.specs.declared.Stepped.{Stepped}
+use Rattle.step.specs.Step.{Effect, effect, effect_in, outcome_by}
 
 -- the number by the tests in rising order
 module _ (e : Event) (out : Bool) (x : Line) where
@@ -61,29 +63,31 @@ module _ (e : Event) (out : Bool) (x : Line) where
 pub less_none : (n : ℕ) → n - 0 ≡ n
 less_none n = omega arith
 
--- the parts of an answer are those of its effect
-gives_effect : (r : Stepped) (n : ℕ) (x : Line) (action : Action) (part buffer : List ℕ) → Gives r n x action
-    → effect_in r part buffer ≡ record { refusal = n; line = x; action = action; part = part; buffer = buffer }
-unfolding effect_in
-gives_effect r n x action part buffer g = rw (g.refusal_is, g.line_is, g.action_is)
+-- what an accepted step comes to
+abbrev pub accepted_as : Line → Action → List ℕ → List ℕ → Effect
+accepted_as y action part buffer = record { refusal = 0; line = y; action = action; part = part; buffer = buffer }
 
 -- an event on a line that was found
-module _ (e : Event) (time : ℕ) (line f : Record) (r : Stepped) (is_found : line_of f ≡ current time (line_of line)) where
-  by_number : (n : ℕ) → refusal (refusals_of e (ltb last_time time) (line_of f)) ≡ n → (o : Outcome) → outcome_by n e (line_of line) (line_of f) ≡ o
-      → Gives r n o.line o.action → effect_in r o.part (padded (event_room e) o.written) ≡ effect e time (line_of line)
+module _ (e : Event) (time : ℕ) (x found : Line) (is_found : found ≡ current time x) where
+  by_number : (n : ℕ) → refusal (refusals_of e (ltb last_time time) found) ≡ n → (o : Outcome) → outcome_by n e x found ≡ o
+      → record { refusal = n; line = o.line; action = o.action; part = o.part; buffer = padded (event_room e) o.written } ≡ effect e time x
   unfolding effect
-  by_number n number o is g =
-      gives_effect r n o.line o.action o.part (padded (event_room e) o.written) g ∙ sym (rw (sym is_found, number, is))
+  by_number n number o is = sym (rw (sym is_found, number, is))
 
   -- it is refused: the line stays as it was
-  pub turned_away : (n : ℕ) → refusal (refusals_of e (ltb last_time time) (line_of f)) ≡ suc n → Gives r (suc n) (line_of line) Action.Nothing
-      → effect_in r [] (zeros (event_room e)) ≡ effect e time (line_of line)
+  pub turned_away : (r : Refusal) → refusal (refusals_of e (ltb last_time time) found) ≡ number_of r → effect_in x (Err r) [] (zeros (event_room e)) ≡ effect e time x
   unfolding outcome_by padded
-  turned_away n number g =
-      ap (λ (k : ℕ). effect_in r [] (zeros k)) (sym (less_none (event_room e))) ∙ by_number (suc n) number (becomes (line_of line) Action.Nothing) refl g
+  turned_away r number = go (number_of r) number (some_number r)
+    where
+      go : (n : ℕ) → refusal (refusals_of e (ltb last_time time) found) ≡ n → 1 ≤ n
+          → record { refusal = n; line = x; action = Action.Nothing; part = []; buffer = zeros (event_room e) } ≡ effect e time x
+      go zero number some = absurd (omega arith)
+      go (suc n) number some =
+          ap (λ (k : ℕ). record { refusal = suc n; line = x; action = Action.Nothing; part = []; buffer = zeros k }) (sym (less_none (event_room e)))
+          ∙ by_number (suc n) number (becomes x Action.Nothing) refl
 
-  -- it is accepted: the outcome is the definition's
-  pub taken : refusal (refusals_of e (ltb last_time time) (line_of f)) ≡ 0 → (o : Outcome) → outcome e (line_of f) ≡ o → Gives r 0 o.line o.action
-      → effect_in r o.part (padded (event_room e) o.written) ≡ effect e time (line_of line)
+  -- it is accepted: the line and the action are those of the outcome
+  pub taken : refusal (refusals_of e (ltb last_time time) found) ≡ 0 → (o : Outcome) → outcome e found ≡ o → {y : Line} {action : Action} → y ≡ o.line → action ≡ o.action
+      → accepted_as y action o.part (padded (event_room e) o.written) ≡ effect e time x
   unfolding outcome_by
-  taken number o is g = by_number 0 number o is g
+  taken number o is line action = rw (line, action) (by_number 0 number o is)

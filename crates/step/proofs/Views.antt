@@ -1,12 +1,12 @@
 -- What a timed call returns follows from less than its whole line: most events look at the bare phase alone, and change only where it stands.
+use Rattle.std.specs.Prelude.{Some}
 use Prim.Native.Nat.{ℕ, zero, suc, ◌≤◌}
 use mathlib.Core.Bool.{Bool}
 use mathlib.Core.List.{List, [], ◌∷◌, ◌++◌}
-use mathlib.Core.Option.{some}
 use mathlib.Core.Path.{◌≡◌, refl, sym, ap, ◌∙◌, subst}
 use native.Mathlib.Omega.{arith}
 use lib.Dec.{eqb, ltb}
-use lib.ListN.{length, take, get_or}
+use lib.ListN.{length}
 use Rattle.octets.specs.Part.{padded}
 use Rattle.octets.specs.Refusal.{Refusal, refusal}
 use Rattle.octets.specs.Row.{only}
@@ -19,7 +19,7 @@ use Rattle.phase.specs.Stage as Stage
 use Rattle.phase.specs.Standing.{Continues, bare, ends, restored, stays}
 use Rattle.phase.specs.declared.Phase.TheVariants.{Idle, Init, Auth}
 use Rattle.phase.proofs.Standings.{restored_bare}
-use Rattle.record.specs.Changes.{current, held_for, in_phase, with_children, with_holds}
+use Rattle.record.specs.Changes.{current, first_end, held_for, in_phase, with_children, with_holds}
 use Rattle.record.specs.Line.{Line}
 use Rattle.rules.specs.Answer.{event_room}
 use Rattle.rules.specs.Call.{Event, start, country, address, begin, init, eap, reply, final, error, congestion, give_up, child_made, child_deleted, ike_delete, last_time}
@@ -28,38 +28,16 @@ use Rattle.rules.specs.Phases.{underway}
 use Rattle.rules.specs.Refusals.{has_no_room, is_allowed, is_held_full, is_out_of_range, is_spi_taken, lacks_parameters, refusals_of}
 use Rattle.rules.specs.Run.{Result}
 use Rattle.rules.specs.View.{fresh}
-use Rattle.step.proofs.Bare.{Moves, address_or, answer_goes, bare_due, bare_ended, bare_in, bare_underway, bare_line, bared, changes, congested_goes, congested_one, finished_moves, holding, idle_for, onward_for, packet_moves, renamed, renamed_first, replied_moves, restoring, underway_address}
+use Rattle.step.proofs.Bare.{Moves, address_or, answer_goes, bare_due, bare_ended, bare_in, bare_underway, bare_line, bared, changes, congested_goes, congested_one, finished_moves, holding, idle_for, onward_for, packet_moves, renamed_first, replied_moves, restoring, underway_address}
 use Rattle.rules.proofs.Goes.{addressed_goes, answered_goes, onto, phased, started_goes}
 use Rattle.rules.proofs.Rows.{passes}
+use Rattle.step.specs.Kinds.{Kind, congesting, kind_of, move, selection, tunnel}
 use Rattle.step.specs.Laws.{result_by, stored_by}
 use Rattle.step.specs.Step.{Effect, effect, outcome_by}
 
 -- the same effect with another line
 unfoldable pub with_line : Effect → Line → Effect
 with_line f x = record { refusal = f.refusal; line = x; action = f.action; part = f.part; buffer = f.buffer }
-
--- a move looks at the bare phase and changes where it stands; selection looks at the whole phase and the holds, congestion adds a hold, and a tunnel's event looks at the children too and changes them
-pub data Kind : Type 0 where
-  selection : Kind
-  move : Kind
-  congesting : Kind
-  tunnel : Kind
-
-unfoldable pub kind_of : Event → Kind
-kind_of (start g text room) = selection
-kind_of (country n networks text room) = selection
-kind_of (address list) = selection
-kind_of begin = move
-kind_of init = move
-kind_of (eap packet) = move
-kind_of (reply parameters nas room) = move
-kind_of (final good) = move
-kind_of (error number) = move
-kind_of (congestion authenticated timer) = congesting
-kind_of give_up = move
-kind_of (child_made spi session) = tunnel
-kind_of (child_deleted spi) = tunnel
-kind_of ike_delete = tunnel
 
 -- the line x with what an event makes of a line: its phase restored, and its children
 abbrev pub tunnelled : Line → Line → Line
@@ -88,7 +66,7 @@ ByKind tunnel e = (x y : Line) → Bare e x (with_children (in_phase y (bare x.p
 
 -- one clause for each event
 by_kind : (e : Event) → ByKind (kind_of e) e
-unfolding kind_of refusals_of is_out_of_range is_allowed is_spi_taken has_no_room is_held_full lacks_parameters outcome keeps goes in_phase with_children with_holds chosen restored
+unfolding refusals_of is_out_of_range is_allowed is_spi_taken has_no_room is_held_full lacks_parameters outcome keeps goes in_phase with_children with_holds chosen restored
 by_kind (start g t room) = λ x y. record { tests = λ out. refl; outcomes = started_goes x y _ t _ }
 by_kind (country n networks t room) = λ x y. record { tests = λ out. refl; outcomes = answered_goes x y _ _ t _ }
 by_kind (address list) = λ x y. record { tests = λ out. refl; outcomes = addressed_goes x y _ _ }
@@ -184,7 +162,7 @@ module _ (time pair : ℕ) (l : List ℕ) (x : Line) where
 
   -- a child that is made stands behind the others
   pub child_added : (spi session : ℕ) → From (child_made spi session) time pair l x (bare_tunnels x) (adding (current time x) (record { spi = spi; session = session }))
-  unfolding kind_of current in_phase with_children outcome
+  unfolding current in_phase with_children outcome
   child_added spi session =
       let child : Child = record { spi = spi; session = session } in
       let same = by_tunnel (child_made spi session) time pair l x refl in
@@ -195,7 +173,7 @@ module _ (time pair : ℕ) (l : List ℕ) (x : Line) where
     e = congestion authenticated timer
 
     -- a line that is congested has an address
-    pub congested_address : (effect e time (bare_of x)).refusal ≡ 0 → chosen x.phase ≡ some (address_or (chosen x.phase))
+    pub congested_address : (effect e time (bare_of x)).refusal ≡ 0 → chosen x.phase ≡ Some (address_or (chosen x.phase))
     unfolding effect is_allowed current in_phase
     congested_address h =
         let allowed = (passes e (ltb last_time time) (current time (bare_of x)) h).allowed in
@@ -210,13 +188,10 @@ module _ (time pair : ℕ) (l : List ℕ) (x : Line) where
         go zero = congested_one (current time x) _
         go (suc n) = omega arith
 
-    -- congestion needs the bare phase alone: where the first of a list is the hold that it adds, if any, the line's own address is held until the same end
-    pub congested_bare : (hs : List Hold) (d : Hold) (count : ℕ) → count ≤ length hs → take count hs ≡ (effect e time (bare_of x)).line.holds
-        → From e time pair l x (bare_of x) (λ z. held_for time (address_or (chosen x.phase)) (get_or hs 0 d).end count x)
-    unfolding kind_of current in_phase fresh only held_for
-    congested_bare hs d count within first =
-        let a = address_or (chosen x.phase) in
-        let same : renamed a (effect e time (bare_of x)).line.holds ≡ take count (record { address = a; end = (get_or hs 0 d).end } ∷ [])
-        = ap (renamed a) (sym first) ∙ renamed_first a hs d count within (rw first one_held) in
+    -- congestion needs the bare phase alone: the line's own address is held until the end of the first hold that is there, if any
+    pub congested_bare : From e time pair l x (bare_of x) (λ z. held_for time (address_or (chosen x.phase)) (first_end z.holds) x)
+    unfolding current in_phase fresh only held_for
+    congested_bare =
         from_same e time pair l x (bare_of x) (holding (current time x)) (by_kind e (current time x))
-        ∙ ap (λ (held : List Hold). result_by (with_line (effect e time (bare_of x)) (with_holds (in_phase (current time x) Idle) ((current time x).holds ++ held))) pair l) same
+        ∙ ap (λ (held : List Hold). result_by (with_line (effect e time (bare_of x)) (with_holds (in_phase (current time x) Idle) ((current time x).holds ++ held))) pair l)
+        (renamed_first (address_or (chosen x.phase)) (effect e time (bare_of x)).line.holds one_held)

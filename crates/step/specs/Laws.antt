@@ -1,6 +1,5 @@
 -- What holds of what an event comes to, for every table; the function `laws` promises it.
-use Rattle.std.specs.Prelude.{ℕ, zero, suc, true, false, List, ◌≡◌, ltb}
-use Rattle.std.proofs.Math.Option.{some}
+use Rattle.std.specs.Prelude.{ℕ, zero, suc, true, false, List, ◌≡◌, ltb, Some}
 use Rattle.record.specs.Line.{Line}
 use Rattle.table.specs.Slots.{Used, put}
 use Rattle.table.specs.Table.{is_table}
@@ -27,5 +26,5 @@ result_by f pair l =
 pub record Laws : Type 0 where
   -- where none of the refusals from 1 to 7 applies to a timed call, its result is that of its event on the line that it names
   pub effect_run : (tenant line time : ℕ) (e : Event) (l : List ℕ) (x : Line) → is_table l ≡ true → is_no_pair (timed tenant line time e) ≡ false
-      → is_short (timed tenant line time e) ≡ false → line_seen (view_in (timed tenant line time e) l) line ≡ some x → ltb time x.time ≡ false
+      → is_short (timed tenant line time e) ≡ false → line_seen (view_in (timed tenant line time e) l) line ≡ Some x → ltb time x.time ≡ false
       → run (timed tenant line time e) l ≡ result_by (effect e time x) (pair_of tenant line) l

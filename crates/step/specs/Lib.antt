@@ -1,3 +1,4 @@
 -- What every step on a line shares.
 pub mod Step
+pub mod Kinds
 pub mod Laws

@@ -1,25 +1,24 @@
 -- Where a slot is replaced: the lines that are found afterwards.
+use Rattle.std.specs.Prelude.{None, is_some}
 use Prim.Native.Nat.{ℕ, ◌≤◌}
 use mathlib.Core.Bool.{Bool, true, false, cond, not, ◌&&◌, ◌||◌, false≢true}
 use mathlib.Core.List.{List, [], ◌∷◌}
-use mathlib.Core.Option.{none}
 use mathlib.Core.Path.{◌≡◌, refl, sym, ap, ◌∙◌}
 use native.Mathlib.Omega.{arith}
 use lib.Dec.{leb}
 use borrow.Author.Tests.{eqb-true, eq-eqb, ne_eqb, le-leb, not-true}
 use Rattle.octets.specs.Search.{any_of, distinct}
 use Rattle.octets.proofs.Search.{and_left, and_right, or_left, or_right}
-use Rattle.octets.specs.Row.{is_some}
 use Rattle.table.specs.Slots.{Slot, Free, Used, pair_in, is_of, is_open, slot_line, line_at, same_pair, pairs_once, replaced}
 
 -- a slot of a pair has a line
 used_line : (pair : ℕ) → 1 ≤ pair → (s : Slot) → pair_in s ≡ pair → is_some (slot_line s) ≡ true
-unfolding pair_in slot_line is_some
+unfolding pair_in slot_line
 used_line pair low Free e = absurd (omega arith)
 used_line pair low (Used p x) e = refl
 
 pub open_line : (pair : ℕ) → 1 ≤ pair → (ss : List Slot) → is_open pair ss ≡ is_some (line_at pair ss)
-unfolding is_open any_of line_at is_some is_of
+unfolding is_open any_of line_at is_of
 open_line pair low [] = refl
 open_line pair low (s ∷ ss) = go (is_of pair s) refl (open_line pair low ss)
   where
@@ -28,7 +27,7 @@ open_line pair low (s ∷ ss) = go (is_of pair s) refl (open_line pair low ss)
     go false e rest = rest
 
 -- a pair that is not open has no line
-pub closed_line : (pair : ℕ) (ss : List Slot) → is_open pair ss ≡ false → line_at pair ss ≡ none
+pub closed_line : (pair : ℕ) (ss : List Slot) → is_open pair ss ≡ false → line_at pair ss ≡ None
 unfolding is_open any_of line_at
 closed_line pair [] e = refl
 closed_line pair (s ∷ ss) e = rw (or_left (is_of pair s) (any_of (is_of pair) ss) e, closed_line pair ss (or_right (is_of pair s) (any_of (is_of pair) ss) e))
@@ -80,12 +79,12 @@ module _ (pair : ℕ) (low : 1 ≤ pair) (t : Slot) (own : pair_in t ≡ pair) w
   alike_open (u ∷ ss) = rw (same_is u, alike_open ss)
 
 -- where no pair stands twice, a pair whose slot is replaced by a free one, or one of another pair, is not found
-pub line_dropped : (pair : ℕ) (s : Slot) → 1 ≤ pair → (pair_in s ≡ pair → ⊥) → (ss : List Slot) → pairs_once ss ≡ true → line_at pair (replaced pair s ss) ≡ none
+pub line_dropped : (pair : ℕ) (s : Slot) → 1 ≤ pair → (pair_in s ≡ pair → ⊥) → (ss : List Slot) → pairs_once ss ≡ true → line_at pair (replaced pair s ss) ≡ None
 unfolding pairs_once distinct line_at replaced is_of
 line_dropped pair s low apart [] once = refl
 line_dropped pair s low apart (t ∷ ts) once = go (is_of pair t) refl (line_dropped pair s low apart ts (and_right (not (any_of (same_pair t) ts)) (pairs_once ts) once))
   where
-    go : (b : Bool) → is_of pair t ≡ b → line_at pair (replaced pair s ts) ≡ none → line_at pair (cond b (s ∷ ts) (t ∷ replaced pair s ts)) ≡ none
+    go : (b : Bool) → is_of pair t ≡ b → line_at pair (replaced pair s ts) ≡ None → line_at pair (cond b (s ∷ ts) (t ∷ replaced pair s ts)) ≡ None
     go true q rest =
         let own : pair_in t ≡ pair = eqb-true (pair_in t) pair q in
         let away : is_open pair ts ≡ false = sym (alike_open pair low t own ts) ∙ not-true (any_of (same_pair t) ts) (and_left (not (any_of (same_pair t) ts)) (pairs_once ts) once) in

@@ -1,9 +1,10 @@
 -- The slots of a table, by the number of the record in which a pair is found.
+use Rattle.std.specs.Prelude.{Some}
 use Prim.Native.Nat.{ℕ, ◌+◌, ◌*◌, ◌≤◌, ◌<◌}
 use mathlib.Core.Bool.{Bool, true, false, ◌&&◌, ◌||◌}
 use mathlib.Core.List.{List}
-use mathlib.Core.Option.{some}
 use mathlib.Core.Path.{◌≡◌, refl, sym, ap, ◌∙◌, subst}
+use native.Mathlib.Nat.{add-zero}
 use native.Mathlib.Omega.{arith}
 use lib.Dec.{eqb, leb, ltb}
 use lib.ListN.{length}
@@ -14,6 +15,7 @@ use Rattle.octets.specs.Part.{part, same, zeros, zeros_at}
 use Rattle.octets.specs.Search.{all_of}
 use Rattle.octets.proofs.Parts.{same_equal}
 use Rattle.octets.proofs.Rows.{length_row, row_distinct, row_passes}
+use Rattle.octets.proofs.Splices.{part_part}
 use Rattle.octets.proofs.Search.{and_left, and_right, and_false, either, least_first, least_passes, lower}
 use Rattle.record.specs.Octets.{line_from, record_length}
 use Rattle.record.specs.Sound.{is_record, line_sound, line_written}
@@ -52,7 +54,7 @@ module _ (l : List ℕ) (pair : ℕ) where
     unfolding slot_at
     slot_pair = sym (pair_from (slot l (record_of l pair))) ∙ pair_in_lem l (record_of l pair) ∙ found_pair
 
-    pub line_found_lem : 1 ≤ pair → line_at pair (slots_of l) ≡ some (line_from (slot l (record_of l pair)))
+    pub line_found_lem : 1 ≤ pair → line_at pair (slots_of l) ≡ Some (line_from (slot l (record_of l pair)))
     unfolding slots_of slot_at slot_from slot_line
     line_found_lem low =
         let s = slot l (record_of l pair) in
@@ -104,9 +106,13 @@ kept_pair s kept = go (same s (zeros record_length)) refl kept
 
 -- a record without a pair is sound exactly where it is zeros, and one with a pair is not zeros
 module _ (l : List ℕ) (i : ℕ) where
-  own_pair : field (slot l i) 0 1 ≡ pair_at l i
+  pub own_pair : field (slot l i) 0 1 ≡ pair_at l i
   unfolding slot_at
   own_pair = sym (pair_from (slot l i)) ∙ pair_in_lem l i
+
+  pub own_zeros : zeros_at (slot l i) 0 record_length ≡ zeros_at l (record_length * i) record_length
+  unfolding zeros_at slot
+  own_zeros = ap (λ (s : List ℕ). same s (zeros record_length)) (part_part l (record_length * i) record_length 0 record_length (omega arith) ∙ rw add-zero)
 
   pub pairless : pair_at l i ≡ 0 → zeros_at l (record_length * i) record_length ≡ slot_sound l i
   unfolding slot_sound is_record

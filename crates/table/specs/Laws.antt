@@ -1,10 +1,8 @@
 -- What holds of the table's octets and of its slots, for every table, pair and line; the function `laws` promises it.
-use Rattle.std.specs.Prelude.{ℕ, ◌≤◌, ◌<◌, Bool, true, false, not, ◌&&◌, ◌||◌, List, ◌≡◌, leb, ltb, replicate}
-use Rattle.std.proofs.Math.Option.{none, some}
+use Rattle.std.specs.Prelude.{ℕ, ◌≤◌, ◌<◌, Bool, true, false, not, ◌&&◌, ◌||◌, List, ◌≡◌, leb, ltb, replicate, None, Some, is_some}
 use Rattle.octets.specs.Laws.{below}
 use Rattle.octets.specs.Part.{zeros}
 use Rattle.octets.specs.Search.{all_of}
-use Rattle.octets.specs.Row.{is_some}
 use Rattle.record.specs.Laws.{line_storable}
 use Rattle.record.specs.Octets.{line_from}
 use Rattle.record.specs.Sound.{line_sound, most_pairs}
@@ -29,7 +27,7 @@ pub record Laws : Type 0 where
   pub slots_once : (l : List ℕ) → is_table l ≡ true → pairs_once (slots_of l) ≡ true
   -- a pair is open exactly where its record is found, and its line is the one in that record
   pub open_found : (l : List ℕ) (pair : ℕ) → is_open pair (slots_of l) ≡ ltb (record_of l pair) record_count
-  pub line_found_lem : (l : List ℕ) (pair : ℕ) → record_of l pair < record_count → 1 ≤ pair → line_at pair (slots_of l) ≡ some (line_from (slot l (record_of l pair)))
+  pub line_found_lem : (l : List ℕ) (pair : ℕ) → record_of l pair < record_count → 1 ≤ pair → line_at pair (slots_of l) ≡ Some (line_from (slot l (record_of l pair)))
   -- a slot is free exactly where fewer pairs than records are open
   pub room : (l : List ℕ) → is_table l ≡ true → is_open free_pair (slots_of l) ≡ ltb (open_pairs (slots_of l)) record_count
   -- the octets of a sound table are its slots written back
@@ -50,7 +48,7 @@ pub record Laws : Type 0 where
   pub line_added : (pair : ℕ) (s : Slot) (ss : List Slot) → is_open pair ss ≡ true → is_open (pair_in s) ss ≡ false
       → line_at (pair_in s) (replaced pair s ss) ≡ slot_line s
   pub line_dropped : (pair : ℕ) (s : Slot) → 1 ≤ pair → (pair_in s ≡ pair → ⊥) → (ss : List Slot) → pairs_once ss ≡ true
-      → line_at pair (replaced pair s ss) ≡ none
+      → line_at pair (replaced pair s ss) ≡ None
   pub line_other : (pair : ℕ) (s : Slot) (q : ℕ) → (pair ≡ q → ⊥) → (pair_in s ≡ q → ⊥) → (ss : List Slot)
       → line_at q (replaced pair s ss) ≡ line_at q ss
   -- a pair is open exactly where it has a line

@@ -1,6 +1,5 @@
 -- The table as slots, and what becomes of them where one changes.
-use Rattle.std.specs.Prelude.{ℕ, suc, ◌*◌, Bool, cond, ◌&&◌, List, [], ◌∷◌, leb, eqb}
-use Rattle.std.proofs.Math.Option.{Option, none, some}
+use Rattle.std.specs.Prelude.{ℕ, suc, ◌*◌, Bool, cond, ◌&&◌, List, [], ◌∷◌, leb, eqb, Option, None, Some}
 use Rattle.std.proofs.lemmas.List.Edits.{sets}
 use Rattle.octets.specs.Digits.{field}
 use Rattle.octets.specs.Part.{zeros}
@@ -48,11 +47,11 @@ is_open pair ss = any_of (is_of pair) ss
 
 -- the line of an open pair
 unfoldable pub slot_line : Slot → Option Line
-slot_line Free = none
-slot_line (Used pair x) = some x
+slot_line Free = None
+slot_line (Used pair x) = Some x
 
 unfoldable pub line_at : ℕ → List Slot → Option Line
-line_at pair [] = none
+line_at pair [] = None
 line_at pair (s ∷ ss) = cond (is_of pair s) (slot_line s) (line_at pair ss)
 
 -- no pair twice

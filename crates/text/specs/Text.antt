@@ -1,13 +1,10 @@
 -- Texts as lists of octets: quoted ones, and numbers as lower-case digits.
-use Rattle.std.specs.Prelude.{ℕ, suc, ◌+◌, ◌-◌, ◌^◌, Bool, cond, ◌&&◌, List, [], ◌∷◌, map, leb, ltb}
+use Rattle.std.specs.Prelude.{ℕ, suc, ◌+◌, ◌-◌, ◌^◌, Bool, cond, ◌&&◌, List, [], ◌∷◌, map, leb, ltb, Option, None, Some}
 use Prim.Native.Char.{code}
 use Prim.Native.String.{String}
 use Prim.Native.String as S
-use Rattle.std.proofs.Math.Option.{Option, none, some}
 use Rattle.octets.specs.Digits.{digits, number}
 use Rattle.octets.specs.Search.{least, all_of}
-use Rattle.text.specs.declared.Reading.{Reading}
-use Rattle.text.specs.declared.Reading.TheVariants.{Number, NotDigits}
 
 -- the octets of a quoted text
 unfoldable pub text : String → List ℕ
@@ -32,12 +29,7 @@ is_digit b c = ltb (digit c) b
 
 -- the number that a text says in base b, where each of its characters is a digit of that base
 unfoldable pub read_digits : ℕ → List ℕ → Option ℕ
-read_digits b l = cond (all_of (is_digit b) l) (some (number b (map digit l))) none
-
--- what the code's answer says: a number, or none
-unfoldable pub number_read : Reading → Option ℕ
-number_read (Number x) = some x
-number_read NotDigits = none
+read_digits b l = cond (all_of (is_digit b) l) (Some (number b (map digit l))) None
 
 -- x has at most k + 1 decimal digits
 unfoldable pub short_enough : ℕ → ℕ → Bool

@@ -2,47 +2,33 @@
 #![tactic(auto)]
 
 ghost use Rattle.std.specs.Prelude.{◌≡◌, ◌+◌, ◌≤◌, ◌<◌, length};
-ghost use Rattle.text.specs.Text.{character, digit, digit_text, decimal, decimal_width, read_digits, number_read};
-ghost use Rattle.octets.specs.Part.{part, Wrote};
+ghost use Rattle.text.specs.Text.{character, digit, digit_text, decimal, decimal_width, read_digits};
+ghost use Rattle.octets.specs.Part.{Wrote};
 ghost use Rattle.text.specs.Laws.{Laws};
 
-// What reading digits finds.
-#[derive(Clone, Copy)]
-pub enum Reading {
-    Number(u64),
-    NotDigits,
-}
-
 // The character of a digit.
+#[tactic(auto, unfolding(crate::specs::Text::character))]
 pub fn character(d: u64) -> u8
     requires { d < 16 }
     ensures { result ≡ character d }
 {
     if d < 10 {
-        (48 + d) as u8
+        b'0' + d as u8
     } else {
-        (87 + d) as u8
+        b'a' - 10 + d as u8
     }
 }
 
 // The digit of a character, 16 where it is none.
+#[tactic(auto, unfolding(crate::specs::Text::digit))]
 pub fn digit(c: u8) -> u64
     ensures { result ≡ digit c }
 {
-    let x = c as u64;
-    if x < 48 {
-        return 16;
+    match c {
+        b'0'..=b'9' => (c - b'0') as u64,
+        b'a'..=b'f' => (c - b'a') as u64 + 10,
+        _ => 16,
     }
-    if x <= 57 {
-        return x - 48;
-    }
-    if x < 97 {
-        return 16;
-    }
-    if x <= 102 {
-        return x - 87;
-    }
-    16
 }
 
 // Stores x in base b from `at`, as exactly n characters.
@@ -51,46 +37,38 @@ pub fn put_digits(s: &mut [u8], at: usize, n: usize, b: u64, x: u64)
     ensures { Wrote s.old at (digit_text b n x) s.new }
 {
     let mut rest = x;
-    let mut i = n;
-    while 0 < i {
-        i -= 1;
+    for i in (0..n).rev() {
         s[at + i] = character(rest % b);
-        rest = rest / b;
+        rest /= b;
     }
 }
 
-// The number that the n characters from `at` say in base b.
-pub fn read_digits(s: &[u8], at: usize, n: usize, b: u64) -> Reading
-    requires { (at + n ≤ length s.now) × (n ≤ 16) × (b ≤ 16) }
-    ensures { number_read result ≡ read_digits b (part s.now at n) }
+// The number that a text says in a base, where each of its characters is a digit of that base.
+pub fn read_digits(s: &[u8], base: u64) -> Option<u64>
+    requires { (length s.now ≤ 16) × (base ≤ 16) }
+    ensures { result ≡ read_digits base s.now }
 {
     let mut x: u64 = 0;
-    let mut i = 0;
-    while i < n {
-        let d = digit(s[at + i]);
-        if b <= d {
-            return Reading::NotDigits;
+    for c in s {
+        let d = digit(*c);
+        if base <= d {
+            return None;
         }
-        x = x * b + d;
-        i += 1;
+        x = x * base + d;
     }
-    Reading::Number(x)
+    Some(x)
 }
 
 // How many decimal digits a number has.
+#[tactic(auto, using(crate::proofs::Texts::width_is))]
 pub fn decimal_width(x: u64) -> usize
     ensures { (result ≡ decimal_width x) × (result ≤ 20) }
 {
-    let mut n = 1;
-    let mut rest = x / 10;
-    while 0 < rest {
-        n += 1;
-        rest = rest / 10;
-    }
-    n
+    x.max(1).ilog10() as usize + 1
 }
 
 // Stores x in decimal from `at`, without leading zeros, and returns the place after it; one digit is stored without a loop.
+#[tactic(auto, using(crate::proofs::Texts::decimal_one, crate::proofs::Texts::width_one), unfolding(crate::specs::Text::decimal))]
 pub fn put_decimal(s: &mut [u8], at: usize, x: u64) -> usize
     requires { at + 20 ≤ length s.old }
     ensures wrote { Wrote s.old at (decimal x) s.new }

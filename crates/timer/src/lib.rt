@@ -26,17 +26,14 @@ fn unit_seconds(unit: usize) -> u64
     UNITS[unit]
 }
 
-// Reads any octet: unit 7 is tested before count 0, since it is deactivated at every count.
+// Reads any octet: unit 7 is deactivated at every count.
+#[tactic(auto, using(crate::proofs::Lengths::product), unfolding(crate::specs::Timer::timer_of))]
 pub fn read(octet: u8) -> Timer
     ensures { result ≡ timer_of octet }
 {
-    let unit = (octet / 32) as usize;
-    let count = (octet % 32) as u64;
-    if unit == 7 {
-        return Timer::Deactivated;
+    match (octet / 32, octet % 32) {
+        (7, _) => Timer::Deactivated,
+        (_, 0) => Timer::None,
+        (unit, count) => Timer::Seconds(count as u64 * unit_seconds(unit as usize)),
     }
-    if count == 0 {
-        return Timer::None;
-    }
-    Timer::Seconds(count * unit_seconds(unit))
 }

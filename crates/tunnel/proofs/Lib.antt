@@ -1,3 +1,2 @@
--- The laws that the proofs of steps on children share.
+-- The laws that the proofs of a tunnel's steps share.
 pub mod Making
-pub mod Tunnels

@@ -1,3 +1,2 @@
--- A child made, and the events that take children away.
-pub mod Events
+-- A child made.
 pub mod Made

@@ -1,16 +1,15 @@
 -- A child made, told by what stands of the children and not by the children themselves.
-use Rattle.std.specs.Prelude.{ℕ, zero, suc, List, [], ◌∷◌, ◌++◌}
+use Rattle.std.specs.Prelude.{List, [], ◌∷◌, ◌++◌, Result, Ok, Err}
 use Rattle.children.specs.declared.Child.{Child}
 use Rattle.record.specs.Changes.{with_children}
-use Rattle.record.specs.Line.{line_of}
+use Rattle.record.specs.Line.{Line, line_of}
+use Rattle.refusal.specs.Numbers.{number_of}
+use Rattle.refusal.specs.declared.Refusal.{Refusal}
+use Rattle.rules.specs.declared.Action.{Action}
 use Rattle.step.specs.Step.{Effect}
-use Rattle.step.specs.declared.Stepped.{Stepped}
+use Rattle.step.specs.declared.Done.{Done}
 
--- by the refusal number: the children that stand, with the new one behind them unless it is refused
-unfoldable pub made_by : ℕ → Child → List Child → List Child
-made_by zero c cs = cs ++ c ∷ []
-made_by (suc n) c cs = cs
-
--- what the code's answer comes to on the line with children
-abbrev pub made_on : Stepped → Child → List Child → Effect
-made_on r c cs = record { refusal = r.refusal; line = with_children (line_of r.line) (made_by r.refusal c cs); action = r.action; part = []; buffer = [] }
+-- what the code's answer comes to on a line with children: the new one stands behind them unless it is refused
+abbrev pub made_on : Line → Result Done Refusal → Child → List Child → Effect
+made_on x (Ok done) c cs = record { refusal = 0; line = with_children (line_of done.line) (cs ++ c ∷ []); action = done.action; part = []; buffer = [] }
+made_on x (Err r) c cs = record { refusal = number_of r; line = with_children x cs; action = Action.Nothing; part = []; buffer = [] }

@@ -1,12 +1,8 @@
--- `addresses::is_address` meets its contract: the version decides, and for version 4 the octets behind.
+-- `addresses::is_address` meets its contract: an address of version 6 has no octets behind it.
 use Rattle.addresses.specs.Addresses.{version_from}
-use Rattle.addresses.proofs.Versions.{version_4, version_6}
+use Rattle.addresses.proofs.Versions.{version_6}
 use Rattle.addresses.proofs.is_address.Goals as goal
 
-pub returns-then-version-eq6 : goal.returns-then-version-eq6
+pub returns-in-6 : goal.returns-in-6
 unfolding version_from
-returns-then-version-eq6 c = version_6 _ _ c.get-version.result c.get-version.ensures.0 c.if-version-eq6.true
-
-pub returns : goal.returns
-unfolding version_from
-returns c = version_4 _ _ c.get-version.result c.get-version.ensures.0 c.if-version-eq6.false _ c.zeros_at.ensures
+returns-in-6 c = version_6 _ _ c.get.result c.get.ensures.0 c.in-6.is

@@ -1,13 +1,12 @@
--- `addresses::read_address` meets its contract: the version decides how many octets are read.
-use borrow.Author.Rules.{rules}
+-- `addresses::read_address` meets its contract: a number of version 6 is read as two halves.
+use Rattle.std.proofs.Common.{arith, rules}
 use Rattle.addresses.specs.Addresses.{version_from}
-use Rattle.addresses.proofs.Versions.{address_4, address_6}
+use Rattle.addresses.proofs.Versions.{address_6}
 use Rattle.addresses.proofs.read_address.Goals as goal
 
-pub returns-then-get-eq4 : goal.returns-then-get-eq4
+pub returns-in_default : goal.returns-in_default
 unfolding version_from
-returns-then-get-eq4 c = address_4 _ _ c.get.result c.get.ensures.0 c.if-get-eq4.true _ c.get-then-get-eq4.ensures.0
-
-pub returns : goal.returns
-unfolding version_from
-returns c = address_6 _ _ c.get.result c.get.ensures.0 c.if-get-eq4.false (search rules) _ _ c.get-2.ensures.0 c.get-3.ensures.0 c.get-3.ensures.1
+returns-in_default c =
+    let high = c.get-in_default in
+    let low = c.get-in_default-2 in
+    address_6 _ _ c.get.result c.get.ensures.0 (omega arith) (search rules) _ _ high.ensures.0 low.ensures.0 low.ensures.1

@@ -32,4 +32,4 @@ pub returns-in-Address : goal.returns-in-Address
 returns-in-Address c =
     let build = c.build-n in
     λ x held. says x _ _ _ _ _ _ _ c.requires.0 build.ensures (search rules)
-    (answers_one x _ _ _ _ c.in-Address.is _ (c.choose_one.ensures _ (held _ c.in-Address.is)) _ c.gateway_found.ensures)
+    (answers_one x _ _ _ _ c.in-Address.is _ (c.choose_one.ensures _ (held _ c.in-Address.is)) _ c.from.ensures)

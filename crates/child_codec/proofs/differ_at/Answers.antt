@@ -34,4 +34,4 @@ returns-then-all_differ c =
     apart _ _ _ c.requires.1 c.spis.result c.spis.ensures (each_differs _ (sym c.all_differ.ensures ∙ c.if-all_differ.true))
 
 pub returns : goal.returns
-returns c = c.are_different.ensures ∙ ap spis_differ c.read_children.ensures
+returns c = c.are_different.ensures ∙ ap spis_differ (c.as_slice.ensures ∙ c.read_children.ensures)

@@ -4,7 +4,6 @@ use mathlib.Core.Bool.{Bool, ◌&&◌}
 use mathlib.Core.List.{List}
 use mathlib.Core.Path.{◌≡◌, sym, ap, ◌∙◌}
 use native.Mathlib.Nat.{sub-zero}
-use borrow.Author.Rules.{rules}
 use Rattle.octets.proofs.Rows.{rest_more, rest_none}
 use Rattle.children.specs.declared.Child.{Child}
 use Rattle.children.specs.Children.{child_fits, child_from, child_in, children_from}
@@ -19,19 +18,19 @@ module _ (l : List ℕ) (at n i : ℕ) where
 
 pub loop-i-init : goal.loop-i-init
 unfolding children_from
-loop-i-init c = (search rules, rw sub-zero)
+loop-i-init c = rw sub-zero
 
 pub returns-then-not-child_fits : goal.returns-then-not-child_fits
 returns-then-not-child_fits c =
     let a = c.args in
     let at-loop = c.loop-i in
-    sym (at-loop.invariant.1 ∙ next a.b.now a.at a.n at-loop.i c.loop-i-test.true c.read_child-child.ensures c.child_fits.ensures (c.if-not-child_fits.true))
+    sym (at-loop.invariant ∙ next a.b.now a.at a.n at-loop.i c.loop-i-test.true c.read_child.ensures c.child_fits.ensures c.if-not-child_fits.true)
 
 pub loop-i-preserved : goal.loop-i-preserved
 loop-i-preserved c =
     let a = c.args in
     let at-loop = c.loop-i in
-    (search rules, at-loop.invariant.1 ∙ next a.b.now a.at a.n at-loop.i c.loop-i-test.true c.read_child-child.ensures c.child_fits.ensures (c.if-not-child_fits.false))
+    at-loop.invariant ∙ next a.b.now a.at a.n at-loop.i c.loop-i-test.true c.read_child.ensures c.child_fits.ensures c.if-not-child_fits.false
 
 pub returns : goal.returns
-returns c = sym (c.loop-i.invariant.1 ∙ rest_none _ _ _ _ c.loop-i-test.false)
+returns c = sym (c.loop-i.invariant ∙ rest_none _ _ _ _ c.loop-i-test.false)

@@ -6,7 +6,6 @@ use mathlib.Core.Path.{◌≡◌, sym, ap, ◌∙◌}
 use native.Mathlib.Nat.{sub-zero}
 use lib.Dec.{eqb}
 use borrow.Author.Tests.{eq-eqb, ne_eqb}
-use borrow.Author.Rules.{rules}
 use Rattle.octets.specs.Search.{any_of}
 use Rattle.octets.proofs.Rows.{row_done, row_more}
 use Rattle.children.specs.declared.Child.{Child}
@@ -29,22 +28,22 @@ module _ (l : List ℕ) (at n spi i : ℕ) where
 
 pub loop-i-init : goal.loop-i-init
 unfolding children_from
-loop-i-init c = (search rules, rw sub-zero)
+loop-i-init c = rw sub-zero
 
-pub returns-then-spi-child : goal.returns-then-spi-child
-returns-then-spi-child c =
+pub returns-then-spi-read_child : goal.returns-then-spi-read_child
+returns-then-spi-read_child c =
     let at-loop = c.loop-i in
     let a = c.args in
-    sym (at-loop.invariant.1 ∙ next a.b.now a.at a.n a.spi at-loop.i c.loop-i-test.true c.read_child-child.ensures (eq-eqb _ _ c.if-spi-child.true))
+    sym (at-loop.invariant ∙ next a.b.now a.at a.n a.spi at-loop.i c.loop-i-test.true c.read_child.ensures (eq-eqb _ _ c.if-spi-read_child.true))
 
 pub loop-i-preserved : goal.loop-i-preserved
 loop-i-preserved c =
     let at-loop = c.loop-i in
     let a = c.args in
-    (search rules, at-loop.invariant.1 ∙ next a.b.now a.at a.n a.spi at-loop.i c.loop-i-test.true c.read_child-child.ensures (ne_eqb _ _ c.if-spi-child.false))
+    at-loop.invariant ∙ next a.b.now a.at a.n a.spi at-loop.i c.loop-i-test.true c.read_child.ensures (ne_eqb _ _ c.if-spi-read_child.false)
 
 pub returns : goal.returns
 returns c =
     let at-loop = c.loop-i in
     let a = c.args in
-    sym (at-loop.invariant.1 ∙ done a.b.now a.at a.n a.spi at-loop.i c.loop-i-test.false)
+    sym (at-loop.invariant ∙ done a.b.now a.at a.n a.spi at-loop.i c.loop-i-test.false)

@@ -1,5 +1,5 @@
 -- `child_codec::has_spi_at` meets its contract. The loop's invariant: the children that are left decide.
-use Prim.Native.Nat.{ℕ, ◌-◌, ◌≤◌}
+use Prim.Native.Nat.{ℕ, ◌-◌}
 use mathlib.Core.Bool.{Bool}
 use mathlib.Core.List.{List}
 use mathlib.Core.Path.{◌≡◌}
@@ -12,7 +12,4 @@ abbrev pub Left : List ℕ → ℕ → ℕ → ℕ → ℕ → Bool
 Left l at n spi i = has_spi spi (row (child_in l at) i (n - i))
 
 abbrev pub invariant-loop-i : goal.invariant-loop-i
-invariant-loop-i l = (l.i ≤ l.n) × (has_spi l.spi (children_from l.b l.at l.n) ≡ Left l.b l.at l.n l.spi l.i)
-
-abbrev pub decreases-loop-i : goal.decreases-loop-i
-decreases-loop-i l = l.n - l.i
+invariant-loop-i l = has_spi l.spi (children_from l.b l.at l.n) ≡ Left l.b l.at l.n l.spi l.i

@@ -1,30 +1,8 @@
--- `child_codec::read_children` meets its contract. The loop's invariant: the list holds the first children.
-use Prim.Native.Nat.{ℕ}
-use mathlib.Core.Path.{◌≡◌, refl, ◌∙◌, subst}
-use native.Mathlib.Omega.{arith}
-use lib.ListN.{length, take, length-set}
+-- `child_codec::read_children` meets its contract: each child is read at its place.
 use borrow.Author.Rules.{rules}
-use Rattle.octets.specs.Row.{row}
-use Rattle.octets.proofs.Rows.{row_stored}
 use Rattle.children.specs.Children.{child_in, children_from}
 use Rattle.child_codec.proofs.read_children.Goals as goal
 
-pub loop-i-init : goal.loop-i-init
-unfolding child_in row
-loop-i-init c = (search rules, search rules, refl)
-
-pub loop-i-preserved : goal.loop-i-preserved
-unfolding child_in
-loop-i-preserved c =
-    let a = c.args in
-    let at-loop = c.loop-i in
-    let sized : length at-loop.list ≡ 8 = at-loop.invariant.1 in
-    (search rules, length-set at-loop.list at-loop.i _ ∙ sized, row_stored (child_in a.b.now a.at) at-loop.list at-loop.i _ (omega arith) at-loop.invariant.2 c.read_child.ensures)
-
 pub returns : goal.returns
-unfolding children_from
-returns c =
-    let a = c.args in
-    let at-loop = c.loop-i in
-    let whole : at-loop.i ≡ a.n = omega arith in
-    subst (λ (k : ℕ). take k at-loop.list ≡ row (child_in a.b.now a.at) 0 k) whole at-loop.invariant.2
+unfolding child_in children_from
+returns c = c.from_fn.ensures (child_in c.args.b.now c.args.at) (λ i x read. search rules)

@@ -24,14 +24,14 @@ more l at n w i inside passed {v} {x} y chosen read k less within =
     (λ apart. get_or-set_other w i k v 0 apart ∙ passed k (omega arith) within)
 
 pub loop-i-init : goal.loop-i-init
-loop-i-init c = (search rules, search rules, λ k none. absurd (omega arith))
+loop-i-init c = (search rules, λ k none. absurd (omega arith))
 
 pub loop-i-preserved : goal.loop-i-preserved
 loop-i-preserved c =
     let a = c.args in
     let at-loop = c.loop-i in
-    let sized : length at-loop.w ≡ 8 = at-loop.invariant.1 in
-    (search rules, length-set at-loop.w at-loop.i _ ∙ sized, more a.b.now a.at a.n at-loop.w at-loop.i (omega arith) at-loop.invariant.2 at-loop.i c.pick.ensures c.get.ensures.0)
+    let sized : length at-loop.w ≡ 8 = at-loop.invariant.0 in
+    (length-set at-loop.w at-loop.i _ ∙ sized, more a.b.now a.at a.n at-loop.w at-loop.i (omega arith) at-loop.invariant.1 at-loop.i c.pick.ensures c.get.ensures.0)
 
 pub returns : goal.returns
-returns c = λ k h. c.loop-i.invariant.2 k (omega arith) h
+returns c = λ k h. c.loop-i.invariant.1 k (omega arith) h

@@ -1,5 +1,5 @@
 -- `child_codec::spis` meets its contract. The loop's invariant: the SPIs of the children passed stand in their places.
-use Prim.Native.Nat.{ℕ, ◌+◌, ◌-◌, ◌*◌, ◌≤◌, ◌<◌}
+use Prim.Native.Nat.{ℕ, ◌+◌, ◌*◌, ◌<◌}
 use mathlib.Core.List.{List}
 use mathlib.Core.Path.{◌≡◌}
 use lib.ListN.{length, get_or}
@@ -11,7 +11,4 @@ abbrev pub Spis : List ℕ → ℕ → ℕ → List ℕ → ℕ → Type 0
 Spis l at n w i = (k : ℕ) → k < i → k < n → get_or w k 0 ≡ field l (at + 5 * k) 4
 
 abbrev pub invariant-loop-i : goal.invariant-loop-i
-invariant-loop-i l = (l.i ≤ 8) × (length l.w ≡ 8) × Spis l.b l.at l.n l.w l.i
-
-abbrev pub decreases-loop-i : goal.decreases-loop-i
-decreases-loop-i l = 8 - l.i
+invariant-loop-i l = (length l.w ≡ 8) × Spis l.b l.at l.n l.w l.i

@@ -1,23 +1,16 @@
 -- `choosing::counting` meets its contract: the home PLMN counts as none.
-use mathlib.Core.Path.{◌≡◌, sym, ◌∙◌}
-use mathlib.Core.Bool.{true, false}
-use Rattle.network.specs.Plmn.{plmn_option, same_plmn}
-use Rattle.config.specs.Settings.{settings_in}
-use Rattle.selection.specs.Selection.{counting}
+use Rattle.std.specs.Prelude.{None, Some, MatchOption}
+use mathlib.Core.Bool.{cond, not}
+use mathlib.Core.Path.{◌≡◌}
+use borrow.Author.Rules.{rules}
+use Rattle.network.specs.Plmn.{same_plmn}
+use Rattle.config.specs.Settings.{settings_of}
+use Rattle.choosing.proofs.Kept.{away}
 use Rattle.choosing.proofs.counting.Goals as goal
 
-pub returns-then-same_plmn : goal.returns-then-same_plmn
-unfolding counting plmn_option settings_in
-returns-then-same_plmn c =
-    let home : same_plmn _ _ ≡ true = sym c.same_plmn.ensures ∙ c.if-same_plmn.true in
-    sym (rw (c.in-Is.is, home))
-
-pub returns-else-same_plmn : goal.returns-else-same_plmn
-unfolding counting plmn_option settings_in
-returns-else-same_plmn c =
-    let other : same_plmn _ _ ≡ false = sym c.same_plmn.ensures ∙ c.if-same_plmn.false in
-    sym (rw (c.in-Is.is, other))
-
-pub returns-in-None : goal.returns-in-None
-unfolding counting plmn_option
-returns-in-None c = sym (rw c.in-None.is)
+pub returns : goal.returns
+unfolding same_plmn settings_of
+returns c =
+    let s = settings_of c.args.configuration in
+    let kept : MatchOption c.args.registered (c.filter.result ≡ None) (λ p. c.filter.result ≡ cond (not (same_plmn p s.home)) (Some p) None) = search rules in
+    away s c.args.registered c.filter.result kept

@@ -1,7 +1,7 @@
 -- `choosing::country` meets its contract: no reply, no network, or one and more.
 use mathlib.Core.Bool.{true, false}
 use mathlib.Core.Path.{◌≡◌, sym, ◌∙◌}
-use Rattle.config.specs.Settings.{settings_in}
+use Rattle.config.specs.Settings.{settings_of}
 use Rattle.lists.specs.Lists.{networks_in}
 use Rattle.ranking.proofs.Picks.{no_network, some_network}
 use Rattle.selection.specs.Selection.{country_reply, country}
@@ -14,13 +14,13 @@ returns-then-not-replied c =
     let unreplied : c.args.replied ≡ false = c.if-not-replied.true in
     sym (rw unreplied)
 
-pub returns-then-networks-lt4 : goal.returns-then-networks-lt4
+pub returns-then-networks-lt-NETWORK : goal.returns-then-networks-lt-NETWORK
 unfolding country_reply
-returns-then-networks-lt4 c =
+returns-then-networks-lt-NETWORK c =
     let a = c.args in
     let l = a.networks.now in
     let replied : a.replied ≡ true = c.if-not-replied.false in
-    c.none_listed.ensures ∙ rw replied (none_is (settings_in a.plmns.now a.bars.now a.config) a.facts (networks_in l) (no_network l c.if-networks-lt4.true))
+    c.none_listed.ensures ∙ rw replied (none_is (settings_of a.configuration) a.facts (networks_in l) (no_network l c.if-networks-lt-NETWORK.true))
 
 pub returns : goal.returns
 unfolding country_reply
@@ -28,5 +28,5 @@ returns c =
     let a = c.args in
     let l = a.networks.now in
     let replied : a.replied ≡ true = c.if-not-replied.false in
-    let listed = some_network l c.if-networks-lt4.false in
-    c.one_or_more.ensures ∙ rw replied (more_are (settings_in a.plmns.now a.bars.now a.config) a.facts (networks_in l) listed.0 listed.1 listed.2)
+    let listed = some_network l c.if-networks-lt-NETWORK.false in
+    c.one_or_more.ensures ∙ rw replied (more_are (settings_of a.configuration) a.facts (networks_in l) listed.0 listed.1 listed.2)

@@ -1,34 +1,28 @@
 -- `choosing::if_listed` meets its contract: the registered PLMN must be listed, and then not be barred.
-use mathlib.Core.Option.{Option}
-use mathlib.Core.Path.{sym, ap, ◌∙◌}
-use Rattle.network.specs.Plmn.{plmn_option}
-use Rattle.config.specs.Settings.{settings_in}
+use mathlib.Core.Bool.{not, ◌&&◌}
+use mathlib.Core.Path.{◌≡◌, sym, ap, ◌∙◌}
+use Rattle.network.specs.Plmn.{among}
+use Rattle.config.specs.Settings.{settings_of}
 use Rattle.lists.specs.Lists.{networks_in}
-use Rattle.network.specs.declared.Plmn.{Plmn}
+use Rattle.preference.specs.Preference.{unbarred}
 use Rattle.selection.specs.Selection.{if_listed}
-use Rattle.selection.proofs.Choices.{not_listed, listed_barred, listed_free}
+use Rattle.choosing.proofs.Kept.{listed}
 use Rattle.choosing.proofs.if_listed.Goals as goal
+use Rattle.choosing.proofs.if_listed.Goals.{then-is_listed, else-is_listed}
 
-pub returns-in_default : goal.returns-in_default
-unfolding if_listed plmn_option
-returns-in_default c = sym (rw c.in_default.is)
-
-pub returns-then-not-is_listed : goal.returns-then-not-is_listed
-unfolding plmn_option
-returns-then-not-is_listed c =
-    let a = c.args in
-    not_listed _ _ _ (sym c.is_listed.ensures ∙ c.if-not-is_listed.true) ∙ sym (ap (λ (o : Option Plmn). if_listed (settings_in a.plmns.now a.bars.now a.config) o (networks_in a.networks.now)) (ap plmn_option c.in-Is.is))
-
-pub returns-then-is_barred : goal.returns-then-is_barred
-unfolding plmn_option
-returns-then-is_barred c =
-    let a = c.args in
-    listed_barred _ _ _ (sym c.is_listed.ensures ∙ c.if-not-is_listed.false) (sym c.is_barred.ensures ∙ c.if-is_barred.true)
-    ∙ sym (ap (λ (o : Option Plmn). if_listed (settings_in a.plmns.now a.bars.now a.config) o (networks_in a.networks.now)) (ap plmn_option c.in-Is.is))
+pub returns-in_err-p : goal.returns-in_err-p
+unfolding if_listed
+returns-in_err-p c = c.from_residual.ensures ∙ sym (rw c.in_err-p.was)
 
 pub returns : goal.returns
-unfolding plmn_option
+unfolding unbarred
 returns c =
-    let a = c.args in
-    listed_free _ _ _ (sym c.is_listed.ensures ∙ c.if-not-is_listed.false) (sym c.is_barred.ensures ∙ c.if-is_barred.false)
-    ∙ sym (ap (λ (o : Option Plmn). if_listed (settings_in a.plmns.now a.bars.now a.config) o (networks_in a.networks.now)) (ap plmn_option c.in-Is.is))
+    let s = settings_of c.args.configuration in
+    let ps = networks_in c.args.networks.now in
+    let p = c.in_ok-p.p in
+    let both : c.if-is_listed.counts ≡ among p ps && unbarred s p =
+    elim c.if-is_listed.branch [
+      | then-is_listed w ↦ rw (w.counts-is, sym c.is_listed.ensures ∙ w.if-is_listed.true) (ap not w.is_barred.ensures)
+      | else-is_listed w ↦ rw (w.counts-is, sym c.is_listed.ensures ∙ w.if-is_listed.false) w.if-is_listed.false
+    ] in
+    c.then_some.ensures ∙ listed s ps c.args.registered p c.if-is_listed.counts c.in_ok-p.was both

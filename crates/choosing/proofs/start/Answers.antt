@@ -1,7 +1,7 @@
 -- `choosing::start` meets its contract: the place picks the case.
-use mathlib.Core.Option.{Option}
+use Rattle.std.specs.Prelude.{Option}
 use mathlib.Core.Path.{sym, ap, ◌∙◌}
-use Rattle.config.specs.Settings.{settings_in}
+use Rattle.config.specs.Settings.{settings_of}
 use Rattle.network.specs.declared.Plmn.{Plmn}
 use Rattle.selection.specs.Selection.{abroad, registered, start, start_at}
 use Rattle.choosing.proofs.start.Goals as goal
@@ -16,4 +16,5 @@ returns-in-Home c = rw c.in-Home.is c.at_home.ensures
 
 pub returns-in-Abroad : goal.returns-in-Abroad
 unfolding start start_at registered
-returns-in-Abroad c = rw c.in-Abroad.is (c.abroad.ensures ∙ ap (λ (o : Option Plmn). abroad (settings_in c.args.plmns.now c.args.bars.now c.args.config) o c.in-Abroad.mcc) c.counting.ensures)
+returns-in-Abroad c =
+    rw c.in-Abroad.is (c.abroad.ensures ∙ ap (λ (o : Option Plmn). abroad (settings_of c.args.configuration) o c.in-Abroad.mcc) c.counting.ensures)

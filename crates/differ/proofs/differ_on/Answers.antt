@@ -6,7 +6,6 @@ use native.Mathlib.Numerals.{add-one}
 use native.Mathlib.Omega.{arith}
 use Rattle.differ.specs.Differ.{differs_on}
 use Rattle.octets.specs.Search.{all}
-use borrow.Author.Rules.{rules}
 use Rattle.differ.proofs.differ_on.Goals as goal
 
 -- one place more
@@ -16,13 +15,13 @@ one_more n p b e = rw add-one (ap (λ (t : Bool). t && p n) e)
 
 pub loop-i-init : goal.loop-i-init
 unfolding all
-loop-i-init c = (search rules, refl)
+loop-i-init c = refl
 
 pub loop-i-preserved : goal.loop-i-preserved
 unfolding differs_on
-loop-i-preserved c = (search rules, one_more c.loop-i.i (differs_on c.args.v c.args.d) c.loop-i.differ c.loop-i.invariant.1)
+loop-i-preserved c = one_more c.loop-i.i (differs_on c.args.v c.args.d) c.loop-i.differ c.loop-i.invariant
 
 pub returns : goal.returns
 returns c =
     let whole : c.loop-i.i ≡ 8 = omega arith in
-    c.loop-i.invariant.1 ∙ ap (λ (n : ℕ). all n (differs_on c.args.v c.args.d)) whole
+    c.loop-i.invariant ∙ ap (λ (n : ℕ). all n (differs_on c.args.v c.args.d)) whole

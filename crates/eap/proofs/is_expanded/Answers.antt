@@ -1,17 +1,15 @@
--- `eap::is_expanded` meets its contract: each return has passed the tests before it.
-use mathlib.Core.Path.{sym, ◌∙◌}
+-- `eap::is_expanded` meets its contract: type, vendor and vendor type are tested as one number.
+use Rattle.std.proofs.Common.{eqb-true, sym, ◌∙◌, arith}
+use borrow.Author.Tests.{leb-true}
 use Rattle.eap.specs.Packet.{length_field}
-use Rattle.eap.proofs.Headers.{by_word, short, wrong_length}
+use Rattle.eap.proofs.Headers.{by_word}
 use Rattle.eap.proofs.is_expanded.Goals as goal
+use Rattle.eap.proofs.is_expanded.Goals.{then-n-ge14, else-n-ge14}
 
-pub returns-then-n-lt14 : goal.returns-then-n-lt14
-returns-then-n-lt14 c = sym (short _ c.if-n-lt14.true)
-
-pub returns-then-get-n : goal.returns-then-get-n
+pub returns-then-get-n-clause-value : goal.returns-then-get-n-clause-value
 unfolding length_field
-returns-then-get-n c = sym (wrong_length _ c.if-n-lt14.false (λ e. c.if-get-n.true (c.get.ensures.0 ∙ e)))
-
-pub returns : goal.returns
-unfolding length_field
-returns c =
-    by_word _ c.if-n-lt14.false (sym c.get.ensures.0 ∙ c.if-get-n.false) c.word.ensures.1 _ c.word.ensures.0
+returns-then-get-n-clause-value c =
+    elim c.if-n-ge14.branch [
+      | then-n-ge14 w ↦ by_word _ w.if-n-ge14.true (sym w.get.ensures.0 ∙ eqb-true _ _ (sym w.value-is ∙ c.if-get-n.true)) c.word.ensures.1 _ c.word.ensures.0
+      | else-n-ge14 w ↦ absurd (omega (arith, leb-true _ _ (sym w.value-is ∙ c.if-get-n.true)))
+    ]

@@ -5,10 +5,10 @@ use Rattle.octets.proofs.Parts.{then}
 use Rattle.phase.specs.Facts.{registered_octets}
 use Rattle.facts_codec.proofs.put_registered.Goals as goal
 
-pub returns-in-Is : goal.returns-in-Is
+pub returns-in-Some : goal.returns-in-Some
 unfolding registered_octets be digits
-returns-in-Is c =
-    rw c.in-Is.is (then (then c.put.ensures c.put-in-Is.ensures refl) c.put-in-Is-2.ensures refl)
+returns-in-Some c =
+    rw c.in-Some.is (then (then c.put.ensures c.put-in-Some.ensures refl) c.put-in-Some-2.ensures refl)
 
 pub returns-in-None : goal.returns-in-None
 unfolding registered_octets be digits

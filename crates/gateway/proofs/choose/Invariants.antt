@@ -1,6 +1,6 @@
 -- `gateway::choose` meets its contract: for every list of held addresses that the array tells of, the addresses passed are not permitted, so
 -- the place found among all is found among those that are left.
-use Prim.Native.Nat.{ℕ, ◌+◌, ◌-◌, ◌≤◌}
+use Prim.Native.Nat.{ℕ, ◌+◌, ◌-◌}
 use mathlib.Core.List.{List}
 use mathlib.Core.Path.{◌≡◌}
 use Rattle.octets.specs.Row.{row, place}
@@ -19,7 +19,4 @@ abbrev pub found_from : ℕ → List Address → (ℕ → Address) → ℕ → �
 found_from local held f n i = i + place (permitted local held) (row f i (n - i))
 
 abbrev pub invariant-loop-i : goal.invariant-loop-i
-invariant-loop-i l = (l.i ≤ l.count) × ((hs : List Address) → HeldAre l.held l.list hs → found l.local hs (address_at l.list) l.count ≡ found_from l.local hs (address_at l.list) l.count l.i)
-
-abbrev pub decreases-loop-i : goal.decreases-loop-i
-decreases-loop-i l = l.count - l.i
+invariant-loop-i l = (hs : List Address) → HeldAre l.held l.list hs → found l.local hs (address_at l.list) l.count ≡ found_from l.local hs (address_at l.list) l.count l.i

@@ -42,7 +42,7 @@ module _ (l : List ℕ) (at n time i : ℕ) where
 
 pub loop-i-init : goal.loop-i-init
 unfolding holds_from
-loop-i-init c = (search rules, search rules, rw (sub-zero, zero-add))
+loop-i-init c = (search rules, rw (sub-zero, zero-add))
 
 pub loop-i-preserved : goal.loop-i-preserved
 loop-i-preserved c =
@@ -50,11 +50,10 @@ loop-i-preserved c =
     let at-loop = c.loop-i in
     let h = c.loop-i-test.true in
     let ends = c.ends_at_after in (
-      search rules,
       elim c.if-ends_at_after.branch [ then-ends_at_after w ↦ omega arith | else-ends_at_after w ↦ omega arith ],
       elim c.if-ends_at_after.branch [
-        | then-ends_at_after w ↦ omega (arith, w.count-is, at-loop.invariant.2, more a.b.now a.at a.n a.time at-loop.i h ends.result ends.ensures w.if-ends_at_after.true)
-        | else-ends_at_after w ↦ omega (arith, w.count-is, at-loop.invariant.2, same a.b.now a.at a.n a.time at-loop.i h ends.result ends.ensures w.if-ends_at_after.false)
+        | then-ends_at_after w ↦ omega (arith, w.count-is, at-loop.invariant.1, more a.b.now a.at a.n a.time at-loop.i h ends.result ends.ensures w.if-ends_at_after.true)
+        | else-ends_at_after w ↦ omega (arith, w.count-is, at-loop.invariant.1, same a.b.now a.at a.n a.time at-loop.i h ends.result ends.ensures w.if-ends_at_after.false)
       ],
     )
 
@@ -62,4 +61,4 @@ pub returns : goal.returns
 returns c =
     let at-loop = c.loop-i in
     let a = c.args in
-    omega (arith, at-loop.invariant.2, done a.b.now a.at a.n a.time at-loop.i c.loop-i-test.false)
+    omega (arith, at-loop.invariant.1, done a.b.now a.at a.n a.time at-loop.i c.loop-i-test.false)

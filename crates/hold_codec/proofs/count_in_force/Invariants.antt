@@ -12,7 +12,4 @@ abbrev pub left : List ℕ → ℕ → ℕ → ℕ → ℕ → ℕ
 left l at n time i = length (only (ends_after time) (row (hold_in l at) i (n - i)))
 
 abbrev pub invariant-loop-i : goal.invariant-loop-i
-invariant-loop-i l = (l.i ≤ l.n) × (l.count ≤ l.i) × (l.count + left l.b l.at l.n l.time l.i ≡ length (only (ends_after l.time) (holds_from l.b l.at l.n)))
-
-abbrev pub decreases-loop-i : goal.decreases-loop-i
-decreases-loop-i l = l.n - l.i
+invariant-loop-i l = (l.count ≤ l.i) × (l.count + left l.b l.at l.n l.time l.i ≡ length (only (ends_after l.time) (holds_from l.b l.at l.n)))

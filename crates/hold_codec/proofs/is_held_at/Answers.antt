@@ -11,6 +11,7 @@ use Rattle.octets.specs.Search.{any_of}
 use Rattle.octets.proofs.Rows.{row_done, row_more}
 use Rattle.address.specs.Address.{address_in, held_addresses, same_address, stands}
 use Rattle.address.specs.declared.Address.{Address}
+use Rattle.address.proofs.Same.{eq_same}
 use Rattle.address.specs.declared.Hold.{Hold}
 use Rattle.addresses.specs.Addresses.{address_from}
 use Rattle.holds.specs.Holds.{end_after, end_of, ends_after, hold_from, hold_in, holds_from}
@@ -43,22 +44,22 @@ module _ (l : List ℕ) (at n time : ℕ) (a : Address) (i : ℕ) where
 
 pub loop-i-init : goal.loop-i-init
 unfolding holds_from
-loop-i-init c = (search rules, rw sub-zero)
+loop-i-init c = rw sub-zero
 
-pub returns-then-same_address-ends_at_after : goal.returns-then-same_address-ends_at_after
-returns-then-same_address-ends_at_after c =
+pub returns-then-eq-ends_at_after : goal.returns-then-eq-ends_at_after
+returns-then-eq-ends_at_after c =
     let at-loop = c.loop-i in
     let a = c.args in
-    sym (at-loop.invariant.1 ∙ next a.b.now a.at a.n a.time a.a at-loop.i c.loop-i-test.true c.read_address.ensures c.same_address.ensures c.ends_at_after.ensures c.if-same_address-ends_at_after.true)
+    sym (at-loop.invariant ∙ next a.b.now a.at a.n a.time a.a at-loop.i c.loop-i-test.true c.read_address.ensures (c.eq.ensures ∙ eq_same _ _ (search rules) (search rules)) c.ends_at_after.ensures c.if-eq-ends_at_after.true)
 
 pub loop-i-preserved : goal.loop-i-preserved
 loop-i-preserved c =
     let at-loop = c.loop-i in
     let a = c.args in
-    (search rules, at-loop.invariant.1 ∙ next a.b.now a.at a.n a.time a.a at-loop.i c.loop-i-test.true c.read_address.ensures c.same_address.ensures c.ends_at_after.ensures c.if-same_address-ends_at_after.false)
+    at-loop.invariant ∙ next a.b.now a.at a.n a.time a.a at-loop.i c.loop-i-test.true c.read_address.ensures (c.eq.ensures ∙ eq_same _ _ (search rules) (search rules)) c.ends_at_after.ensures c.if-eq-ends_at_after.false
 
 pub returns : goal.returns
 returns c =
     let at-loop = c.loop-i in
     let a = c.args in
-    sym (at-loop.invariant.1 ∙ done a.b.now a.at a.n a.time a.a at-loop.i c.loop-i-test.false)
+    sym (at-loop.invariant ∙ done a.b.now a.at a.n a.time a.a at-loop.i c.loop-i-test.false)

@@ -1,5 +1,5 @@
 -- `hold_codec::is_held_at` meets its contract. The loop's invariant: the holds that are left decide.
-use Prim.Native.Nat.{ℕ, ◌-◌, ◌≤◌}
+use Prim.Native.Nat.{ℕ, ◌-◌}
 use mathlib.Core.Bool.{Bool}
 use mathlib.Core.List.{List}
 use mathlib.Core.Path.{◌≡◌}
@@ -14,7 +14,4 @@ abbrev pub left : List ℕ → ℕ → ℕ → ℕ → Address → ℕ → Bool
 left l at n time a i = stands a (held_addresses (only (ends_after time) (row (hold_in l at) i (n - i))))
 
 abbrev pub invariant-loop-i : goal.invariant-loop-i
-invariant-loop-i l = (l.i ≤ l.n) × (stands l.a (held_addresses (only (ends_after l.time) (holds_from l.b l.at l.n))) ≡ left l.b l.at l.n l.time l.a l.i)
-
-abbrev pub decreases-loop-i : goal.decreases-loop-i
-decreases-loop-i l = l.n - l.i
+invariant-loop-i l = stands l.a (held_addresses (only (ends_after l.time) (holds_from l.b l.at l.n))) ≡ left l.b l.at l.n l.time l.a l.i

@@ -30,22 +30,22 @@ all_in l at n other keys few sized e =
 
 pub loop-i-init : goal.loop-i-init
 unfolding row
-loop-i-init c = (search rules, search rules, refl)
+loop-i-init c = (search rules, refl)
 
 pub loop-i-preserved : goal.loop-i-preserved
 unfolding keyIn
 loop-i-preserved c =
     let a = c.args in
     let at-loop = c.loop-i in
-    let sized : length at-loop.list ≡ 8 = at-loop.invariant.1 in
+    let sized : length at-loop.list ≡ 8 = at-loop.invariant.0 in
     let stored : c.pick.result ≡ keyIn a.b.now a.at a.n a.other at-loop.i =
     c.pick.ensures ∙ ap₂ (cond (ltb at-loop.i a.n)) c.key_at-key.ensures c.pick-free.ensures in
-    (search rules, length-set at-loop.list at-loop.i _ ∙ sized, row_stored (keyIn a.b.now a.at a.n a.other) at-loop.list at-loop.i _ (omega arith) at-loop.invariant.2 stored)
+    (length-set at-loop.list at-loop.i _ ∙ sized, row_stored (keyIn a.b.now a.at a.n a.other) at-loop.list at-loop.i _ (omega arith) at-loop.invariant.1 stored)
 
 pub returns : goal.returns
 returns c =
     let a = c.args in
     let at-loop = c.loop-i in
     let past : at-loop.i ≡ 8 = omega arith in
-    all_in a.b.now a.at a.n a.other at-loop.list c.requires.1 at-loop.invariant.1
-    (subst (λ (k : ℕ). take k at-loop.list ≡ row (keyIn a.b.now a.at a.n a.other) 0 k) past at-loop.invariant.2)
+    all_in a.b.now a.at a.n a.other at-loop.list c.requires.1 at-loop.invariant.0
+    (subst (λ (k : ℕ). take k at-loop.list ≡ row (keyIn a.b.now a.at a.n a.other) 0 k) past at-loop.invariant.1)

@@ -1,5 +1,5 @@
 -- `hold_codec::keys` meets its contract. The loop's invariant: the list has what is asked for in the places passed.
-use Prim.Native.Nat.{ℕ, ◌+◌, ◌-◌, ◌*◌, ◌≤◌}
+use Prim.Native.Nat.{ℕ, ◌+◌, ◌*◌}
 use mathlib.Core.Bool.{cond}
 use mathlib.Core.List.{List}
 use mathlib.Core.Path.{◌≡◌}
@@ -14,7 +14,4 @@ unfoldable pub keyIn : List ℕ → ℕ → ℕ → ℕ → ℕ → ℕ
 keyIn l at n other i = cond (ltb i n) (key_at l (at + 22 * i)) (cond (eqb i 7) other i)
 
 abbrev pub invariant-loop-i : goal.invariant-loop-i
-invariant-loop-i l = (l.i ≤ 8) × (length l.list ≡ 8) × (take l.i l.list ≡ row (keyIn l.b l.at l.n l.other) 0 l.i)
-
-abbrev pub decreases-loop-i : goal.decreases-loop-i
-decreases-loop-i l = 8 - l.i
+invariant-loop-i l = (length l.list ≡ 8) × (take l.i l.list ≡ row (keyIn l.b l.at l.n l.other) 0 l.i)

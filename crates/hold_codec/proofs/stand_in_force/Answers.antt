@@ -5,7 +5,6 @@ use mathlib.Core.List.{List}
 use mathlib.Core.Path.{◌≡◌, refl, sym, ap, ◌∙◌, subst}
 use native.Mathlib.Nat.{add-zero, sub-zero}
 use native.Mathlib.Omega.{arith}
-use borrow.Author.Rules.{rules}
 use Rattle.octets.specs.Part.{zeros_at}
 use Rattle.octets.specs.Row.{row}
 use Rattle.octets.specs.Search.{all, all_of}
@@ -46,7 +45,7 @@ pub loop-i-init : goal.loop-i-init
 unfolding all
 loop-i-init c =
     let a = c.args in
-    (search rules, refl, all_left a.b.now a.at a.n a.time)
+    (refl, all_left a.b.now a.at a.n a.time)
 
 pub returns-then-not-is_address : goal.returns-then-not-is_address
 unfolding has_address
@@ -61,16 +60,15 @@ returns-then-not-ends_at_after c =
     let a = c.args in
     let at-loop = c.loop-i in
     sym (and_false (holds_written a.b.now a.at a.n) (all_of (ends_after a.time) (holds_from a.b.now a.at a.n))
-    (at-loop.invariant.2 ∙ rest_more (hold_in a.b.now a.at) (ends_after a.time) a.n at-loop.i c.loop-i-test.true false (sym c.ends_at_after.ensures ∙ c.if-not-ends_at_after.true)))
+    (at-loop.invariant.1 ∙ rest_more (hold_in a.b.now a.at) (ends_after a.time) a.n at-loop.i c.loop-i-test.true false (sym c.ends_at_after.ensures ∙ c.if-not-ends_at_after.true)))
 
 pub loop-i-preserved : goal.loop-i-preserved
 unfolding has_address ends_after hold_in hold_from
 loop-i-preserved c =
     let a = c.args in
     let at-loop = c.loop-i in (
-      search rules,
-      all_more at-loop.i (has_address a.b.now a.at) at-loop.invariant.1 (sym c.is_address.ensures ∙ c.if-not-is_address.false),
-      at-loop.invariant.2 ∙ rest_more (hold_in a.b.now a.at) (ends_after a.time) a.n at-loop.i c.loop-i-test.true true (sym c.ends_at_after.ensures ∙ c.if-not-ends_at_after.false),
+      all_more at-loop.i (has_address a.b.now a.at) at-loop.invariant.0 (sym c.is_address.ensures ∙ c.if-not-is_address.false),
+      at-loop.invariant.1 ∙ rest_more (hold_in a.b.now a.at) (ends_after a.time) a.n at-loop.i c.loop-i-test.true true (sym c.ends_at_after.ensures ∙ c.if-not-ends_at_after.false),
     )
 
 pub returns : goal.returns
@@ -78,5 +76,5 @@ returns c =
     let a = c.args in
     let at-loop = c.loop-i in
     let whole : at-loop.i ≡ a.n = omega arith in
-    c.zeros_at-2.ensures ∙ all_addresses a.b.now a.at a.n c.if-n-gt-HOLDS.false (subst (λ (k : ℕ). all k (has_address a.b.now a.at) ≡ true) whole at-loop.invariant.1)
-    ∙ with-true (holds_written a.b.now a.at a.n) (all_of (ends_after a.time) (holds_from a.b.now a.at a.n)) (at-loop.invariant.2 ∙ rest_none (hold_in a.b.now a.at) (ends_after a.time) a.n at-loop.i c.loop-i-test.false)
+    c.zeros_at-2.ensures ∙ all_addresses a.b.now a.at a.n c.if-n-gt-HOLDS.false (subst (λ (k : ℕ). all k (has_address a.b.now a.at) ≡ true) whole at-loop.invariant.0)
+    ∙ with-true (holds_written a.b.now a.at a.n) (all_of (ends_after a.time) (holds_from a.b.now a.at a.n)) (at-loop.invariant.1 ∙ rest_none (hold_in a.b.now a.at) (ends_after a.time) a.n at-loop.i c.loop-i-test.false)

@@ -1,5 +1,5 @@
 -- `hold_codec::stand_in_force` meets its contract. The loop's invariant: the holds passed have addresses, and the ends of those that are left decide.
-use Prim.Native.Nat.{ℕ, ◌-◌, ◌≤◌}
+use Prim.Native.Nat.{ℕ, ◌-◌}
 use mathlib.Core.Bool.{Bool, true}
 use mathlib.Core.List.{List}
 use mathlib.Core.Path.{◌≡◌}
@@ -13,7 +13,4 @@ abbrev pub left : List ℕ → ℕ → ℕ → ℕ → ℕ → Bool
 left l at n time i = all_of (ends_after time) (row (hold_in l at) i (n - i))
 
 abbrev pub invariant-loop-i : goal.invariant-loop-i
-invariant-loop-i l = (l.i ≤ l.n) × (all l.i (has_address l.b l.at) ≡ true) × (all_of (ends_after l.time) (holds_from l.b l.at l.n) ≡ left l.b l.at l.n l.time l.i)
-
-abbrev pub decreases-loop-i : goal.decreases-loop-i
-decreases-loop-i l = l.n - l.i
+invariant-loop-i l = (all l.i (has_address l.b l.at) ≡ true) × (all_of (ends_after l.time) (holds_from l.b l.at l.n) ≡ left l.b l.at l.n l.time l.i)

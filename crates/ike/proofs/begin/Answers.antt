@@ -1,48 +1,27 @@
 -- `ike::begin` meets its contract: a late call and every phase but chosen are refused, and IKE_SA_INIT is sent from there.
-use mathlib.Core.Path.{refl, sym, ap, ◌∙◌}
+use mathlib.Core.Path.{refl}
 use borrow.Author.Rules.{rules}
 use Rattle.octets.specs.Part.{padded, zeros}
 use Rattle.phase.specs.Chosen.{chosen}
 use Rattle.phase.specs.Stage as Stage
-use Rattle.phase.specs.declared.Phase.TheVariants.{Init}
 use Rattle.phase.proofs.Stages.{other_stage, same_stage, tags}
+use Rattle.record.specs.Changes.{in_phase}
 use Rattle.record.specs.Line.{line_of}
 use Rattle.rules.specs.Answer.{event_room}
 use Rattle.rules.specs.Call.{begin}
-use Rattle.rules.specs.Life.{goes, outcome}
+use Rattle.rules.specs.Life.{goes, keeps, onward, outcome}
 use Rattle.rules.specs.Refusals.{has_no_room, is_allowed, is_held_full, is_malformed, is_out_of_range, is_spi_taken}
-use Rattle.rules.specs.declared.Action.TheVariants.{SendInit}
-use Rattle.step.proofs.Steps.{accepted, late, taken, turned_away, untimely}
-use Rattle.ike.proofs.Onward.{goes_on}
+use Rattle.step.proofs.Shown.{done, late, untimely}
 use Rattle.ike.proofs.begin.Goals as goal
 
-pub returns-then-is_late : goal.returns-then-is_late
+pub returns-in_err-found : goal.returns-in_err-found
 unfolding event_room zeros
-returns-then-is_late c =
-    let found = c.current-found.ensures.result_value in
-    let gives = c.refused.ensures in
-    record { result_value = turned_away begin _ _ _ _ found 7 (late begin _ _ (sym c.is_late.ensures ∙ c.if-is_late.true)) gives; in_arrays = gives.in_arrays }
+returns-in_err-found c = late begin _ _ c.from_residual.ensures c.in_err-found.ensures
 
 pub returns-in_default : goal.returns-in_default
 unfolding event_room is_allowed is_malformed is_out_of_range line_of zeros
-returns-in_default c =
-    let start = c.args in
-    let found = c.current-found in
-    let timely = sym c.is_late.ensures ∙ c.if-is_late.false in
-    let other = other_stage Stage.chosen _ tags (search rules) in
-    let gives = c.refused-in_default.ensures in
-    record { result_value = turned_away begin start.time start.line found.result _ found.ensures.result_value 9 (untimely begin _ _ timely refl refl other) gives; in_arrays = gives.in_arrays }
+returns-in_default c = untimely begin c.in_ok-found.ensures refl refl (other_stage Stage.chosen _ tags (search rules))
 
 pub returns : goal.returns
-unfolding chosen event_room goes has_no_room is_allowed is_held_full is_malformed is_out_of_range is_spi_taken line_of outcome padded zeros
-returns c =
-    let start = c.args in
-    let found = c.current-found in
-    let timely = sym c.is_late.ensures ∙ c.if-is_late.false in
-    let is = c.in-Chosen.is in
-    let gives = c.goes.ensures in
-    record {
-      result_value = taken begin start.time start.line found.result _ found.ensures.result_value (accepted begin _ _ timely refl refl (same_stage is) refl refl refl) _
-          (goes_on _ Init SendInit _ (ap chosen is)) gives;
-      in_arrays = gives.in_arrays;
-    }
+unfolding chosen event_room goes has_no_room in_phase is_allowed is_held_full is_malformed is_out_of_range is_spi_taken keeps line_of onward outcome padded zeros
+returns c = done begin c.in_ok-found.ensures refl refl (same_stage c.in-Chosen.is) refl refl refl refl (rw c.in-Chosen.is c.in_phase.ensures) refl

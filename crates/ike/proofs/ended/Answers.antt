@@ -1,13 +1,12 @@
 -- `ike::ended` meets its contract: an EAP session ends where the phase is eap.
-use Rattle.phase.specs.Stage as Stage
-use Rattle.phase.proofs.Stages.{is_in_lem, not_in}
+use Rattle.phase.proofs.Stages.{not_eap, same_stage}
 use Rattle.rules.specs.Life.{ended}
 use Rattle.ike.proofs.ended.Goals as goal
 
-pub returns-then-number-eq-EAP : goal.returns-then-number-eq-EAP
+pub returns-in-Eap : goal.returns-in-Eap
 unfolding ended
-returns-then-number-eq-EAP c = rw (is_in_lem Stage.eap c.args.phase _ c.number.ensures c.if-number-eq-EAP.true)
+returns-in-Eap c = rw (same_stage c.in-Eap.is)
 
-pub returns : goal.returns
+pub returns-in_default : goal.returns-in_default
 unfolding ended
-returns c = rw (not_in Stage.eap c.args.phase _ c.number.ensures c.if-number-eq-EAP.false)
+returns-in_default c = rw (not_eap c.args.phase c.in_default.not-Eap)

@@ -2,30 +2,29 @@
 use mathlib.Core.Path.{refl, ◌∙◌}
 use native.Mathlib.Omega.{arith}
 use lib.ListN.{length-set}
-use borrow.Author.Rules.{rules}
 use Rattle.table.specs.Table.{pair_at}
 use Rattle.listing.proofs.Finds.{found_all, found_none, found_other, found_own}
 use Rattle.listing.proofs.find_lines.Goals as goal
 
 pub loop-i-init : goal.loop-i-init
-loop-i-init c = (search rules, refl, found_none _ _)
+loop-i-init c = (refl, found_none _ _)
 
 pub loop-i-preserved-then-number-tenant : goal.loop-i-preserved-then-number-tenant
 unfolding pair_at
 loop-i-preserved-then-number-tenant c =
     let at-loop = c.loop-i in
     let a = c.args in
-    (search rules, length-set at-loop.found _ _ ∙ at-loop.invariant.1, found_own a.table.now a.tenant at-loop.i _ c.get.ensures.0 c.if-number-tenant.true at-loop.found at-loop.invariant.1 c.loop-i-test.true at-loop.invariant.0 at-loop.invariant.2)
+    (length-set at-loop.found _ _ ∙ at-loop.invariant.0, found_own a.table.now a.tenant at-loop.i _ c.get.ensures.0 c.if-number-tenant.true at-loop.found at-loop.invariant.0 c.loop-i-test.true at-loop.auto.i at-loop.invariant.1)
 
 pub loop-i-preserved : goal.loop-i-preserved
 unfolding pair_at
 loop-i-preserved c =
     let at-loop = c.loop-i in
     let a = c.args in
-    (search rules, at-loop.invariant.1, found_other a.table.now a.tenant at-loop.i _ c.get.ensures.0 c.if-number-tenant.false at-loop.found at-loop.invariant.2)
+    (at-loop.invariant.0, found_other a.table.now a.tenant at-loop.i _ c.get.ensures.0 c.if-number-tenant.false at-loop.found at-loop.invariant.1)
 
 pub returns : goal.returns
 returns c =
     let at-loop = c.loop-i in
     let a = c.args in
-    λ line h. found_all a.table.now a.tenant at-loop.i at-loop.found c.loop-i-test.false at-loop.invariant.2 line (omega arith)
+    λ line h. found_all a.table.now a.tenant at-loop.i at-loop.found c.loop-i-test.false at-loop.invariant.1 line (omega arith)

@@ -2,7 +2,6 @@
 use mathlib.Core.Path.{◌≡◌, refl, sym, ap, ◌∙◌}
 use native.Mathlib.Omega.{arith}
 use lib.ListN.{length}
-use borrow.Author.Rules.{rules}
 use Rattle.octets.specs.Part.{padded}
 use Rattle.octets.proofs.Parts.{length_zeros}
 use Rattle.table.specs.Slots.{slots_of}
@@ -23,7 +22,7 @@ find_lines-requires c =
 
 pub loop-line-init : goal.loop-line-init
 unfolding listing_of
-loop-line-init c = (search rules, left_all _ _ _)
+loop-line-init c = left_all _ _ _
 
 pub put_open-at-requires : goal.put_open-at-requires
 unfolding listing_of
@@ -35,7 +34,7 @@ put_open-at-requires c =
     let found = c.find_lines.ensures at-loop.line (omega arith) in
     let next = next_line (own_line a.tenant (slots_of a.table.now)) at-loop.line 4 (omega arith) in (
       λ within. (omega (arith, table_length_lem a.table.now c.requires.0), record_there a.table.now a.tenant at-loop.line refl found within c.requires.0),
-      fits_as (ap (open_text at-loop.line) (own_in a.table.now a.tenant at-loop.line _ found)) (left_fits at-loop.invariant.1 _ next (record { room = omega arith })),
+      fits_as (ap (open_text at-loop.line) (own_in a.table.now a.tenant at-loop.line _ found)) (left_fits at-loop.invariant _ next (record { room = omega arith })),
     )
 
 pub loop-line-preserved : goal.loop-line-preserved
@@ -44,10 +43,10 @@ loop-line-preserved c =
     let a = c.args in
     let found = c.find_lines.ensures at-loop.line (omega arith) in
     let next = next_line (own_line a.tenant (slots_of a.table.now)) at-loop.line 4 (omega arith) in
-    (search rules, left_less at-loop.invariant.1 next (put_as (sym (ap (open_text at-loop.line) (own_in a.table.now a.tenant at-loop.line _ found))) c.put_open-at.ensures))
+    left_less at-loop.invariant next (put_as (sym (ap (open_text at-loop.line) (own_in a.table.now a.tenant at-loop.line _ found))) c.put_open-at.ensures)
 
 pub shape_of-buffer : goal.shape_of-buffer
-shape_of-buffer c = c.loop-line.invariant.1.size ∙ ap length c.zero.ensures ∙ length_zeros _
+shape_of-buffer c = c.loop-line.invariant.size ∙ ap length c.zero.ensures ∙ length_zeros _
 
 pub returns : goal.returns
 unfolding listing_of
@@ -57,5 +56,5 @@ returns c =
     let short = listing_short a.table.now c.requires.0 a.tenant in
     let whole = listing_of a.tenant a.table.now in
     let done : (at-loop.buffer ≡ padded (length a.buffer.now) whole) × (at-loop.at ≡ length whole) =
-    put_padded c.zero.ensures (omega arith) (left_done at-loop.invariant.1 (no_line (own_line a.tenant (slots_of a.table.now)) at-loop.line 4 (omega arith))) in
+    put_padded c.zero.ensures (omega arith) (left_done at-loop.invariant (no_line (own_line a.tenant (slots_of a.table.now)) at-loop.line 4 (omega arith))) in
     record { buffer_after = done.0; value = done.1 }

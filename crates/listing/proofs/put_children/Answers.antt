@@ -1,7 +1,6 @@
 -- `listing::put_children` meets its contract. The loop's invariant: the records of the children that are left make the whole.
 use mathlib.Core.Path.{sym, ap}
 use native.Mathlib.Nat.{sub-zero}
-use borrow.Author.Rules.{rules}
 use Rattle.children.specs.Children.{child_in, children_from}
 use Rattle.record.specs.Octets.{children_place}
 use Rattle.rules.specs.Listing.{child_text}
@@ -11,7 +10,7 @@ use Rattle.listing.proofs.put_children.Goals as goal
 
 pub loop-i-init : goal.loop-i-init
 unfolding children_from
-loop-i-init c = (search rules, rw sub-zero (left_all _ _ _))
+loop-i-init c = rw sub-zero (left_all _ _ _)
 
 pub put_child-place-requires : goal.put_child-place-requires
 unfolding child_in
@@ -19,7 +18,7 @@ put_child-place-requires c =
     let at-loop = c.loop-i in
     let a = c.args in
     let next = next_joined (child_text a.line) (child_in a.b.now children_place) at-loop.i a.n c.loop-i-test.true in
-    fits_as (ap (child_text a.line) (sym c.read_child.ensures)) (left_fits at-loop.invariant.1 _ next c.requires.2)
+    fits_as (ap (child_text a.line) (sym c.read_child.ensures)) (left_fits at-loop.invariant _ next c.requires.2)
 
 pub loop-i-preserved : goal.loop-i-preserved
 unfolding child_in
@@ -27,13 +26,13 @@ loop-i-preserved c =
     let at-loop = c.loop-i in
     let a = c.args in
     let next = next_joined (child_text a.line) (child_in a.b.now children_place) at-loop.i a.n c.loop-i-test.true in
-    (search rules, left_less at-loop.invariant.1 next (put_as (ap (child_text a.line) c.read_child.ensures) c.put_child-place.ensures))
+    left_less at-loop.invariant next (put_as (ap (child_text a.line) c.read_child.ensures) c.put_child-place.ensures)
 
 pub shape_of-buffer : goal.shape_of-buffer
-shape_of-buffer c = c.loop-i.invariant.1.size
+shape_of-buffer c = c.loop-i.invariant.size
 
 pub returns : goal.returns
 returns c =
     let at-loop = c.loop-i in
     let a = c.args in
-    left_done at-loop.invariant.1 (none_joined (child_text a.line) (child_in a.b.now children_place) at-loop.i a.n c.loop-i-test.false)
+    left_done at-loop.invariant (none_joined (child_text a.line) (child_in a.b.now children_place) at-loop.i a.n c.loop-i-test.false)

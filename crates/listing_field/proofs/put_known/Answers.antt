@@ -1,7 +1,7 @@
 -- `listing_field::put_known` meets its contract: 8 digits, or twice 16.
+use Rattle.std.specs.Prelude.{Some}
 use Prim.Native.Nat.{ℕ}
 use mathlib.Core.List.{List}
-use mathlib.Core.Option.{some}
 use mathlib.Core.Path.{sym, ap, ◌∙◌}
 use borrow.Author.Rules.{rules}
 use Rattle.address.specs.Address.{number_of, version_of, width_of}
@@ -12,7 +12,7 @@ use Rattle.listing_field.proofs.Digits.{halves_text}
 use Rattle.listing_field.proofs.put_known.Goals as goal
 
 abbrev spelt : Address → List ℕ
-spelt a = address_text (some a)
+spelt a = address_text (Some a)
 
 pub put_hex-requires : goal.put_hex-requires
 unfolding address_text version_of width_of number_of

@@ -1,50 +1,17 @@
--- `lists::networks_fit` meets its contract. The loop's invariant: the networks passed fit.
-use Prim.Native.Nat.{◌/◌}
-use mathlib.Core.Path.{refl, sym, ◌∙◌}
-use native.Mathlib.Omega.{arith}
-use lib.ListN.{length}
-use borrow.Author.Rules.{rules}
+-- `lists::networks_fit` meets its contract: each entry of a whole list is tested.
+use Rattle.std.proofs.Common.{◌≡◌, ◌/◌, ◌∙◌, length, refl, rules, tests}
+use Rattle.std.proofs.lemmas.Iterator.{YieldsList-from_range}
+use Rattle.std.proofs.lemmas.Iterator.Search.{all_from_yields_List}
 use Rattle.octets.specs.Search.{all}
-use Rattle.octets.proofs.Search.{all_more}
-use Rattle.lists.specs.Lists.{networks_fit, network_fits, whole}
-use Rattle.lists.proofs.Entries.{not_whole, one_fails, every_fits}
+use Rattle.octets.proofs.Search.{all_range}
+use Rattle.lists.specs.Lists.{networks_fit, network_fits}
 use Rattle.lists.proofs.networks_fit.Goals as goal
 
-pub returns-then-not-is_whole : goal.returns-then-not-is_whole
+pub returns-then-is_whole : goal.returns-then-is_whole
 unfolding networks_fit
-returns-then-not-is_whole c = not_whole _ _ _ (sym c.is_whole.ensures ∙ c.if-not-is_whole.true)
-
-pub loop-i-init : goal.loop-i-init
-unfolding all
-loop-i-init c = (search rules, refl)
-
-pub network_fits-requires : goal.network_fits-requires
-network_fits-requires c = omega arith
-
-pub returns-then-not-network_fits : goal.returns-then-not-network_fits
-unfolding networks_fit
-returns-then-not-network_fits c =
-    let whole_is = c.is_whole in
+returns-then-is_whole c =
     let l = c.args.list.now in
-    one_fails (whole 4 l) (length l / 4) (network_fits l) _
-    (sym whole_is.ensures ∙ c.if-not-is_whole.false)
-    (sym c.network_fits.ensures ∙ c.if-not-network_fits.true)
-    (omega arith)
-
-pub loop-i-preserved : goal.loop-i-preserved
-loop-i-preserved c =
-    let l = c.args.list.now in
-    let at-loop = c.loop-i in
-    (search rules, all_more at-loop.i (network_fits l) at-loop.invariant.1 (sym c.network_fits.ensures ∙ c.if-not-network_fits.false))
-
-pub returns : goal.returns
-unfolding networks_fit
-returns c =
-    let whole_is = c.is_whole in
-    let l = c.args.list.now in
-    let at-loop = c.loop-i in
-    every_fits (whole 4 l) (length l / 4) (network_fits l) at-loop.i
-    (sym whole_is.ensures ∙ c.if-not-is_whole.false)
-    at-loop.invariant.1
-    (omega arith)
-    (omega arith)
+    let n = length l / 4 in
+    let each : c.all.result ≡ all n (network_fits l) =
+    all_from_yields_List (network_fits l) _ _ c.all.result c.all.ensures.ran (YieldsList-from_range 0 n n refl (search rules)) (λ x b q k. search (rules, tests)) ∙ all_range n (network_fits l) in
+    rw (← c.if-is_whole.ensures) each

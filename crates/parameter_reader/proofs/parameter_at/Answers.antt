@@ -1,34 +1,41 @@
--- `parameter_reader::parameter_at` meets its contract: the tests that lead to each return pick the case.
-use Prim.Native.Nat.{ℕ, ◌+◌, ◌<◌, ◌≤◌}
-use mathlib.Core.Path.{subst}
-use native.Mathlib.Omega.{arith}
-use lib.ListN.{length}
+-- `parameter_reader::parameter_at` meets its contract: what the slice from the place on has picks the case.
+use Rattle.std.proofs.Common.{◌≡◌, ℕ, ◌+◌, ◌-◌, ◌<◌, ◌≤◌, List, length, take, drop, get_or, add-zero, sym, ◌∙◌, arith}
+use Rattle.std.proofs.lemmas.List.{length-take, length-drop, get_or-take, get_or-drop}
+use Rattle.octets.specs.Digits.{field}
 use Rattle.parameters.specs.Parameters.{size}
-use Rattle.parameters.proofs.Walk.{ends, no_room, no_value, fits}
+use Rattle.parameters.proofs.Walk.{ends, field_one, fits, no_room, no_value}
 use Rattle.parameter_reader.proofs.parameter_at.Goals as goal
 
-pub returns-then-at-n : goal.returns-then-at-n
-returns-then-at-n c = ends _ _ c.if-at-n.true
+-- an octet of what is left from a place on
+octet : (l : List ℕ) (at k : ℕ) → at + k < length l → get_or (take (length l - at) (drop at l)) k 0 ≡ field l (at + k) 1
+octet l at k h =
+    get_or-take (length l - at) (drop at l) k 0 (omega arith) ∙ get_or-drop at l k 0 ∙ sym (field_one l (at + k) h)
 
-pub returns-then-n-at : goal.returns-then-n-at
-returns-then-n-at c = no_room _ _ c.if-at-n.false (omega arith)
+pub returns-then-parameters-at : goal.returns-then-parameters-at
+returns-then-parameters-at c = no_room _ _ (λ e. omega (arith, e)) (omega arith)
 
-pub returns-then-n-at-lt2 : goal.returns-then-n-at-lt2
-returns-then-n-at-lt2 c = no_room _ _ c.if-at-n.false (omega arith)
+pub returns-in-empty : goal.returns-in-empty
+returns-in-empty c = ends _ _ (omega (arith, length-take {A = ℕ}, length-drop {A = ℕ}))
 
-pub returns-then-n-start : goal.returns-then-n-start
+pub returns-in_default : goal.returns-in_default
+returns-in_default c =
+    no_room _ _ (λ e. omega (arith, e, length-take {A = ℕ}, length-drop {A = ℕ})) (omega (arith, length-take {A = ℕ}, length-drop {A = ℕ}))
+
+pub returns-then-value-length : goal.returns-then-value-length
 unfolding size
-returns-then-n-start c =
-    let a = c.args in
-    let runs : length a.parameters.now < a.at + 2 + c.get-length.result = omega arith in
-    no_value _ _ c.if-at-n.false (omega arith) (subst (λ (k : ℕ). length a.parameters.now < a.at + 2 + k) c.get-length.ensures.0 runs)
+returns-then-value-length c =
+    let l = c.args.parameters.now in
+    let at = c.args.at in
+    let room : at + 2 ≤ length l = omega (arith, length-take {A = ℕ}, length-drop {A = ℕ}) in
+    no_value l at (λ e. omega (arith, e)) room (omega (arith, octet l at 1 (omega arith), length-take {A = ℕ}, length-drop {A = ℕ}))
 
-pub returns : goal.returns
+pub returns-else-value-length : goal.returns-else-value-length
 unfolding size
-returns c =
-    let a = c.args in
-    let kind = c.get.ensures.0 in
-    let long = c.get-length.ensures.0 in
-    let within : a.at + 2 + c.get-length.result ≤ length a.parameters.now = omega arith in
-    let whole = fits _ _ c.if-at-n.false (subst (λ (k : ℕ). a.at + 2 + k ≤ length a.parameters.now) long within) in
-    cc
+returns-else-value-length c =
+    let l = c.args.parameters.now in
+    let at = c.args.at in
+    let room : at + 2 ≤ length l = omega (arith, length-take {A = ℕ}, length-drop {A = ℕ}) in
+    let kind = octet l at 0 (omega arith) in
+    let long = octet l at 1 (omega arith) in
+    let whole = fits l at (λ e. omega (arith, e)) (omega (arith, long, length-take {A = ℕ}, length-drop {A = ℕ})) in
+    simp (kind, long, add-zero) whole

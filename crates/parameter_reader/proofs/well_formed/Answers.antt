@@ -1,65 +1,66 @@
 -- `parameter_reader::well_formed` meets its contract. The loop's invariant: the block is well formed exactly if what is left of it is, within
 -- some count of AN-parameters that is not below the octets left.
-use Prim.Native.Nat.{ℕ, suc, pred, ◌-◌, ◌≤◌, ◌<◌}
-use mathlib.Core.Bool.{true, false}
-use mathlib.Core.List.{List}
-use mathlib.Core.Path.{◌≡◌, refl, sym, ap, ◌∙◌}
+use Rattle.std.proofs.Common.{◌≡◌, ℕ, suc, pred, ◌≤◌, ◌<◌, List, length, drop, None, Some, Ok, Err, true, false, refl, sym, ap, ◌∙◌, arith, rules}
+use Rattle.std.proofs.Math.ListN.{drop_of_length-le}
 use native.Mathlib.Nat.{suc-pred-eq_of_pos}
-use native.Mathlib.Omega.{arith}
-use lib.ListN.{length, drop, drop_of_length-le}
-use borrow.Author.Rules.{rules}
+use Rattle.octets.proofs.Search.{either}
 use Rattle.parameters.specs.Parameters.{well_formed, well_formed_in, parameter_at}
-use Rattle.parameters.specs.declared.Parameter.TheVariants.{Whole, Broken}
-use Rattle.parameters.proofs.Walk.{passes, whole_next, broken_fails, not_end, none_left}
+use Rattle.parameters.specs.declared.Broken.{Broken}
+use Rattle.parameters.specs.declared.Parameter.{Parameter}
+use Rattle.parameters.proofs.Exact.{whole_lies}
+use Rattle.parameters.proofs.Walk.{broken_fails, ends, none_left, not_end, passes, whole_next}
 use Rattle.parameter_reader.proofs.well_formed.Invariants.{Left}
 use Rattle.parameter_reader.proofs.well_formed.Goals as goal
 
--- a count that is not below the octets left has one to spare
-one_less : (l : List ℕ) (at n : ℕ) → at < length l → length l - at ≤ n → suc (pred n) ≡ n
-one_less l at n h k = suc-pred-eq_of_pos (omega arith)
+module _ (l : List ℕ) (at : ℕ) (left : Left l at) where
+  -- a count that is not below the octets left has one to spare
+  one_less : at < length l → well_formed_in (suc (pred left.0)) (drop at l) ≡ well_formed l
+  one_less more =
+      let n = left.0 in
+      let enough : 0 < n = omega (arith, left.1) in
+      ap (λ (k : ℕ). well_formed_in k (drop at l)) (suc-pred-eq_of_pos enough) ∙ left.2
 
-again : (l : List ℕ) (at : ℕ) (more : at < length l) (kind start long next : ℕ) → Whole kind start long next ≡ parameter_at l at → Left l at
-    → (next ≤ length l) × Left l next
-again l at more kind start long next e left =
-    let n = left.0 in
-    let to = whole_next l at more kind start long next e in
-    let here : well_formed_in (suc (pred n)) (drop at l) ≡ well_formed l = ap (λ (k : ℕ). well_formed_in k (drop at l)) (one_less l at n more left.1) ∙ left.2 in
-    (omega arith, (pred n, omega arith, ap (λ (k : ℕ). well_formed_in (pred n) (drop k l)) to.0 ∙ sym (passes l at (pred n) to.1) ∙ here))
+  again : (p : Parameter) → Ok (Some p) ≡ parameter_at l at → (at < p.next) × (p.next ≤ length l) × Left l p.next
+  again p e =
+      let n = left.0 in
+      let lies = whole_lies l at p (sym e) in
+      let more : at < length l = omega arith in
+      let to = whole_next l at more p e in (
+        omega arith,
+        lies.2,
+        (pred n, omega (arith, left.1), ap (λ (k : ℕ). well_formed_in (pred n) (drop k l)) to.0 ∙ sym (passes l at (pred n) to.1) ∙ one_less more),
+      )
 
-fails : (l : List ℕ) (at : ℕ) (more : at < length l) → Broken ≡ parameter_at l at → Left l at → false ≡ well_formed l
-fails l at more e left =
-    let n = left.0 in
-    sym (broken_fails l at more (pred n) e) ∙ ap (λ (k : ℕ). well_formed_in k (drop at l)) (one_less l at n more left.1) ∙ left.2
+  module _ (within : at ≤ length l) where
+    done : Ok None ≡ parameter_at l at → true ≡ well_formed l
+    done e =
+        either at (length l)
+        (λ q. sym (none_left left.0) ∙ ap (well_formed_in left.0) (sym (drop_of_length-le l (omega (arith, q)))) ∙ left.2)
+        (λ other. absurd (not_end l at (omega (arith, other)) e))
 
-done : (l : List ℕ) (at : ℕ) → length l ≤ at → Left l at → true ≡ well_formed l
-done l at h left = sym (none_left left.0) ∙ ap (well_formed_in left.0) (sym (drop_of_length-le l h)) ∙ left.2
+    fails : (b : Broken) → Err b ≡ parameter_at l at → false ≡ well_formed l
+    fails b e =
+        either at (length l)
+        (λ q. absurd (let end = ends l at q in cc))
+        (λ other. let more : at < length l = omega (arith, other) in sym (broken_fails l at more (pred left.0) b e) ∙ one_less more)
 
-pub loop-at-init : goal.loop-at-init
+pub loop-parameter-init : goal.loop-parameter-init
 unfolding well_formed
-loop-at-init c = (search rules, (length c.args.parameters.now, omega arith, refl))
+loop-parameter-init c = (search rules, (length c.args.parameters.now, omega arith, refl))
 
-pub loop-at-smaller : goal.loop-at-smaller
-loop-at-smaller c =
-    let at-loop = c.loop-at in
-    let next = whole_next _ at-loop.at c.loop-at-test.true _ _ _ _ (sym c.in-Whole.is ∙ c.parameter_at.ensures) in
+pub loop-parameter-smaller : goal.loop-parameter-smaller
+loop-parameter-smaller c =
+    let next = again c.args.parameters.now c.loop-parameter.at c.loop-parameter.invariant.1 c.in-Ok-Some.parameter (cc) in
     omega arith
 
-pub loop-at-preserved : goal.loop-at-preserved
-loop-at-preserved c =
-    let a = c.args in
-    let at-loop = c.loop-at in
-    again a.parameters.now at-loop.at c.loop-at-test.true _ _ _ _
-    (sym c.in-Whole.is ∙ c.parameter_at.ensures) at-loop.invariant.1
+pub loop-parameter-preserved : goal.loop-parameter-preserved
+loop-parameter-preserved c =
+    let next = again c.args.parameters.now c.loop-parameter.at c.loop-parameter.invariant.1 c.in-Ok-Some.parameter (cc) in
+    (next.1, next.2)
 
-pub returns-in-End : goal.returns-in-End
-returns-in-End c = absurd (not_end _ _ c.loop-at-test.true (sym c.in-End.is ∙ c.parameter_at.ensures))
+pub returns-in-Ok-None : goal.returns-in-Ok-None
+returns-in-Ok-None c =
+    done c.args.parameters.now c.loop-parameter.at c.loop-parameter.invariant.1 c.loop-parameter.invariant.0 (cc)
 
-pub returns-in-Broken : goal.returns-in-Broken
-returns-in-Broken c =
-    let a = c.args in
-    let at-loop = c.loop-at in
-    fails a.parameters.now at-loop.at c.loop-at-test.true
-    (sym c.in-Broken.is ∙ c.parameter_at.ensures) at-loop.invariant.1
-
-pub returns : goal.returns
-returns c = done c.args.parameters.now c.loop-at.at c.loop-at-test.false c.loop-at.invariant.1
+pub returns-in-Err : goal.returns-in-Err
+returns-in-Err c = fails _ _ c.loop-parameter.invariant.1 c.loop-parameter.invariant.0 _ (sym c.in-Err.is ∙ c.parameter_at.ensures)

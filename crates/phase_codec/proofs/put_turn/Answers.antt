@@ -1,21 +1,15 @@
 -- `phase_codec::put_turn` meets its contract: the identifier stands behind how far it is.
-use mathlib.Core.Path.{refl}
+use Rattle.std.proofs.Common.{◌≡◌, ◌++◌, refl}
 use Rattle.octets.specs.Digits.{be, digits}
 use Rattle.octets.proofs.Parts.{then}
 use Rattle.phase.specs.Phase.{turn_octets}
 use Rattle.phase_codec.proofs.put_turn.Goals as goal
+use Rattle.phase_codec.proofs.put_turn.Goals.{in-First, in-Owed, in-Answered}
 
-pub returns-in-First : goal.returns-in-First
+pub returns : goal.returns
 unfolding turn_octets be digits
-returns-in-First c =
-    rw c.in-First.is (then c.put.ensures c.put-in-First.ensures refl)
-
-pub returns-in-Owed : goal.returns-in-Owed
-unfolding turn_octets be digits
-returns-in-Owed c =
-    rw c.in-Owed.is (then c.put-in-Owed.ensures c.put-in-Owed-2.ensures refl)
-
-pub returns-in-Answered : goal.returns-in-Answered
-unfolding turn_octets be digits
-returns-in-Answered c =
-    rw c.in-Answered.is (then c.put-in-Answered.ensures c.put-in-Answered-2.ensures refl)
+returns c =
+    let stored = c.match-turn.kind in
+    let two : turn_octets c.args.turn ≡ be 1 stored.0 ++ be 1 stored.1 =
+    elim c.match-turn.branch [ in-First w ↦ rw (w.in-First.is, w.kind-is) | in-Owed w ↦ rw (w.in-Owed.is, w.kind-is) | in-Answered w ↦ rw (w.in-Answered.is, w.kind-is) ] in
+    rw two (then c.put.ensures c.put-2.ensures refl)

@@ -1,45 +1,22 @@
--- `ranking::is_listed` meets its contract. The loop's invariant: the networks that are left decide.
-use Prim.Native.Nat.{ℕ, ◌/◌}
+-- `ranking::is_listed` meets its contract: the networks of the list are gone through, of which the one at i is item i.
+use Prim.Native.Nat.{ℕ, ◌/◌, ◌<◌}
 use mathlib.Core.Bool.{true, false}
-use mathlib.Core.Path.{◌≡◌, sym, ap, ◌∙◌}
-use native.Mathlib.Nat.{sub-zero}
-use native.Mathlib.Omega.{arith}
+use mathlib.Core.Path.{◌≡◌}
 use lib.ListN.{length}
 use borrow.Author.Rules.{rules}
-use Rattle.network.specs.Plmn.{among, same_plmn}
-use Rattle.octets.specs.Row.{row}
+use Rattle.std.specs.Prelude.{Some}
+use Rattle.std.specs.Option.{option_map}
+use Rattle.std.proofs.iter.runs.Sources.{ranges}
+use Rattle.network.specs.Plmn.{same_plmn}
 use Rattle.lists.specs.Lists.{network_at, networks_in}
-use Rattle.ranking.proofs.Picks.{among_more, among_done}
+use Rattle.ranking.proofs.Picks.{among_row}
 use Rattle.ranking.proofs.is_listed.Goals as goal
 
-pub loop-i-init : goal.loop-i-init
-unfolding networks_in
-loop-i-init c =
-    let a = c.args in
-    let l = a.networks.now in
-    (search rules, ap (λ (k : ℕ). among a.p (row (network_at l) 0 k)) (sym (sub-zero (length l / 4))))
-
-pub network_at-requires : goal.network_at-requires
-network_at-requires c = omega arith
-
-pub returns-then-same_plmn : goal.returns-then-same_plmn
-returns-then-same_plmn c =
-    let a = c.args in
-    let l = a.networks.now in
-    let at-loop = c.loop-i in
-    let same-one : same_plmn a.p (network_at l at-loop.i) ≡ true = sym (ap (same_plmn a.p) c.network_at.ensures) ∙ sym c.same_plmn.ensures ∙ c.if-same_plmn.true in
-    sym (at-loop.invariant.1 ∙ among_more (network_at l) at-loop.i (length l / 4) a.p c.loop-i-test.true true same-one)
-
-pub loop-i-preserved : goal.loop-i-preserved
-loop-i-preserved c =
-    let a = c.args in
-    let l = a.networks.now in
-    let at-loop = c.loop-i in
-    let other : same_plmn a.p (network_at l at-loop.i) ≡ false = sym (ap (same_plmn a.p) c.network_at.ensures) ∙ sym c.same_plmn.ensures ∙ c.if-same_plmn.false in
-    (search rules, at-loop.invariant.1 ∙ among_more (network_at l) at-loop.i (length l / 4) a.p c.loop-i-test.true false other)
-
 pub returns : goal.returns
+unfolding networks_in same_plmn
 returns c =
-    let a = c.args in
-    let l = a.networks.now in
-    sym (c.loop-i.invariant.1 ∙ among_done (network_at l) c.loop-i.i (length l / 4) a.p c.loop-i-test.false)
+    let l = c.args.networks.now in
+    let some : c.any.result ≡ true → (i : ℕ) × (i < length l / 4) × (same_plmn c.args.p (network_at l i) ≡ true) = search (rules, ranges) in
+    let item : c.any.result ≡ false → (i : ℕ) → i < length l / 4 → option_map (λ y. y) (c.any.ensures.runs.0.at i) ≡ Some i = search (rules, ranges) in
+    let none : c.any.result ≡ false → (i : ℕ) → i < length l / 4 → option_map (λ y. y) (c.any.ensures.runs.0.at i) ≡ Some i → same_plmn c.args.p (network_at l i) ≡ false = search (rules, ranges) in
+    among_row (network_at l) c.args.p (length l / 4) c.any.result some (λ e i h. none e i h (item e i h))

@@ -3,12 +3,12 @@ use mathlib.Core.Path.{◌∙◌}
 use Rattle.ranking.proofs.Picks.{offers_visited, offers_listed}
 use Rattle.ranking.proofs.is_offered.Goals as goal
 
-pub returns-then-networks-lt4 : goal.returns-then-networks-lt4
-returns-then-networks-lt4 c =
+pub returns-then-networks-lt-NETWORK : goal.returns-then-networks-lt-NETWORK
+returns-then-networks-lt-NETWORK c =
     let a = c.args in
-    c.is_visited.ensures ∙ offers_visited a.networks.now a.place a.p c.if-networks-lt4.true
+    c.is_visited.ensures ∙ offers_visited a.networks.now a.place a.p c.if-networks-lt-NETWORK.true
 
 pub returns : goal.returns
 returns c =
     let a = c.args in
-    c.is_listed.ensures ∙ offers_listed a.networks.now a.place a.p c.if-networks-lt4.false
+    c.is_listed.ensures ∙ offers_listed a.networks.now a.place a.p c.if-networks-lt-NETWORK.false

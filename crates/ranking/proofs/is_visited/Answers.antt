@@ -1,17 +1,22 @@
 -- `ranking::is_visited` meets its contract: the place picks the case.
-use mathlib.Core.Path.{sym, ap}
+use mathlib.Core.Bool.{false}
+use mathlib.Core.Path.{◌≡◌, refl, sym}
+use Rattle.network.specs.declared.Plmn.{Plmn}
 use Rattle.place.specs.declared.Place.{Place}
+use Rattle.place.specs.declared.Place.TheVariants.{Unknown, Home, Abroad}
 use Rattle.preference.specs.Preference.{visited}
 use Rattle.ranking.proofs.is_visited.Goals as goal
 
-pub returns-in-Unknown : goal.returns-in-Unknown
+-- no other place has a visited MCC
+elsewhere : (place : Place) (p : Plmn) → ((mcc : _) → place ≡ Abroad mcc → ⊥) → false ≡ visited place p
 unfolding visited
-returns-in-Unknown c = sym (ap (λ (x : Place). visited x c.args.p) c.in-Unknown.is)
-
-pub returns-in-Home : goal.returns-in-Home
-unfolding visited
-returns-in-Home c = sym (ap (λ (x : Place). visited x c.args.p) c.in-Home.is)
+elsewhere Unknown p other = refl
+elsewhere Home p other = refl
+elsewhere (Abroad mcc) p other = absurd (other mcc refl)
 
 pub returns-in-Abroad : goal.returns-in-Abroad
 unfolding visited
-returns-in-Abroad c = sym (ap (λ (x : Place). visited x c.args.p) c.in-Abroad.is)
+returns-in-Abroad c = sym (rw c.in-Abroad.is)
+
+pub returns-in_default : goal.returns-in_default
+returns-in_default c = elsewhere _ _ c.in_default.not-Abroad

@@ -1,54 +1,35 @@
--- `ranking::ranked` meets its contract. The loop's invariant: the best of the records behind is found.
-use Prim.Native.Nat.{◌-◌}
-use mathlib.Core.Option.{some}
-use mathlib.Core.Path.{◌≡◌, sym, ap, ◌∙◌}
-use native.Mathlib.Nat.{le_refl}
-use native.Mathlib.Omega.{arith}
-use Rattle.network.specs.Plmn.{plmn_option}
-use Rattle.entry.specs.declared.field.Preferred.{Preferred}
-use Rattle.config.specs.Settings.{listed_in, plmn_in, settings_in}
-use Rattle.preference.specs.Preference.{better, ranked}
-use Rattle.ranking.specs.Branch.{where_found}
-use Rattle.ranking.proofs.Picks.{none_behind, best_more, best_same, found_best, found_none}
+-- `ranking::ranked` meets its contract. The loop's invariant: the best so far and the best of the records that are left is the best of all.
+use mathlib.Core.Path.{◌≡◌, refl, sym, ap, ◌∙◌}
+use borrow.Author.Rules.{rules}
+use Rattle.config.specs.Settings.{plmn_in, settings_of}
+use Rattle.lists.specs.Lists.{networks_in}
+use Rattle.preference.specs.Preference.{eligible, network_of, ranked}
+use Rattle.ranking.specs.Branch.{best_of}
+use Rattle.ranking.proofs.Picks.{best_more, best_same, best_alone}
 use Rattle.ranking.proofs.ranked.Goals as goal
+use Rattle.ranking.proofs.ranked.Goals.{then-is_eligible, else-is_eligible}
 
-pub loop-i-init : goal.loop-i-init
-unfolding where_found
-loop-i-init c =
-    let n = c.args.config.plmn_count in
-    (le_refl n, none_behind _ c.args.plmns.now n n c.requires.plmns_within (le_refl n))
+pub loop-x-init : goal.loop-x-init
+unfolding best_of
+loop-x-init c = refl
 
-pub bounds-plmns-i : goal.bounds-plmns-i
-bounds-plmns-i c = omega (arith, c.requires.plmns_within)
-
-pub is_eligible-requires : goal.is_eligible-requires
-is_eligible-requires c = c.requires
-
-pub loop-i-preserved-then-is_eligible : goal.loop-i-preserved-then-is_eligible
-unfolding where_found
-loop-i-preserved-then-is_eligible c =
-    let at-loop = c.loop-i in
-    let read = c.listed_in.ensures in (
-      omega arith,
-      ap some (c.better_of-top.ensures ∙ ap (λ (x : Preferred). better x (where_found at-loop.found (listed_in at-loop.top))) (sym read))
-          ∙ best_more _ c.args.plmns.now c.args.config.plmn_count (at-loop.i - 1) c.requires.plmns_within at-loop.i (omega arith) (omega arith) _ read _ at-loop.invariant.1 (sym c.is_eligible.ensures ∙ c.if-is_eligible.true),
-    )
-
-pub loop-i-preserved : goal.loop-i-preserved
-loop-i-preserved c =
-    let at-loop = c.loop-i in
-    (omega arith, best_same _ c.args.plmns.now c.args.config.plmn_count (at-loop.i - 1) c.requires.plmns_within at-loop.i (omega arith) (omega arith) _ c.listed_in.ensures _ at-loop.invariant.1 (sym c.is_eligible.ensures ∙ c.if-is_eligible.false))
-
-pub returns-then-found : goal.returns-then-found
-unfolding plmn_option plmn_in ranked settings_in
-returns-then-found c =
-    let at-loop = c.loop-i in
-    let done : at-loop.i ≡ 0 = omega arith in
-    ap (λ (x : Preferred). some x.plmn) c.listed_in-best.ensures ∙ found_best _ _ at-loop.i at-loop.found (listed_in at-loop.top) at-loop.invariant.1 done c.if-found.true
+pub loop-x-preserved : goal.loop-x-preserved
+loop-x-preserved c =
+    let a = c.args in
+    let at-loop = c.loop-x in
+    let passes = eligible (settings_of a.configuration) (networks_in a.networks.now) a.place in
+    elim c.if-is_eligible.branch [
+      | then-is_eligible w ↦ rw (w.best-is, w.better_of.ensures)
+          (best_more passes a.configuration.plmns.now at-loop.x-index _ c.loop-x-test.true at-loop.best (sym c.is_eligible.ensures ∙ w.if-is_eligible.true) ∙ at-loop.invariant)
+      | else-is_eligible w ↦ rw w.best-is
+          (best_same passes a.configuration.plmns.now at-loop.x-index _ c.loop-x-test.true at-loop.best (sym c.is_eligible.ensures ∙ w.if-is_eligible.false) ∙ at-loop.invariant)
+    ]
 
 pub returns : goal.returns
-unfolding plmn_option ranked settings_in
+unfolding ranked network_of plmn_in settings_of
 returns c =
-    let at-loop = c.loop-i in
-    let done : at-loop.i ≡ 0 = omega arith in
-    found_none _ _ at-loop.i at-loop.found (listed_in at-loop.top) at-loop.invariant.1 done c.if-found.false
+    let a = c.args in
+    let at-loop = c.loop-x in
+    let passes = eligible (settings_of a.configuration) (networks_in a.networks.now) a.place in
+    let told : c.map.result ≡ network_of at-loop.best = search rules in
+    told ∙ ap network_of (sym (best_alone passes a.configuration.plmns.now at-loop.x-index c.loop-x-test.false at-loop.best) ∙ at-loop.invariant)

@@ -1,55 +1,32 @@
--- `ranking::unranked` meets its contract. The loop's invariant: the networks that are left decide.
-use Prim.Native.Nat.{ℕ, ◌/◌}
+-- `ranking::unranked` meets its contract: the networks are gone through, of which the one at i is item i, up to the first that is not barred.
+use Prim.Native.Nat.{ℕ, ◌+◌, ◌/◌, ◌<◌}
 use mathlib.Core.Bool.{true, false, not}
-use mathlib.Core.Option.{some}
-use mathlib.Core.Path.{◌≡◌, sym, ap, ◌∙◌}
-use native.Mathlib.Nat.{sub-zero}
+use mathlib.Core.Path.{◌≡◌, ap}
 use native.Mathlib.Omega.{arith}
 use lib.ListN.{length}
 use borrow.Author.Rules.{rules}
-use Rattle.network.specs.Plmn.{plmn_option}
-use Rattle.octets.specs.Row.{row, first}
-use Rattle.octets.proofs.Rows.{first_more, first_here, first_none}
+use Rattle.std.specs.Prelude.{None, Some}
+use Rattle.std.specs.Option.{option_map}
+use Rattle.std.proofs.iter.runs.Sources.{ranges}
+use Rattle.network.specs.declared.Plmn.{Plmn}
+use Rattle.config.specs.Settings.{settings_of}
 use Rattle.lists.specs.Lists.{network_at, networks_in}
-use Rattle.preference.specs.Preference.{unbarred, unranked}
-use Rattle.config.specs.Settings.{settings_in}
+use Rattle.preference.specs.Preference.{barred, unbarred, unranked}
+use Rattle.ranking.proofs.Picks.{first_row}
 use Rattle.ranking.proofs.unranked.Goals as goal
 
-pub loop-i-init : goal.loop-i-init
-unfolding networks_in unranked
-loop-i-init c =
-    let a = c.args in
-    let l = a.networks.now in
-    (search rules, ap (λ (k : ℕ). first (unbarred (settings_in a.plmns.now a.bars.now a.config)) (row (network_at l) 0 k)) (sym (sub-zero (length l / 4))))
-
-pub network_at-p-requires : goal.network_at-p-requires
-network_at-p-requires c = omega arith
-
-pub returns-then-not-is_barred : goal.returns-then-not-is_barred
-unfolding plmn_option unbarred
-returns-then-not-is_barred c =
-    let a = c.args in
-    let l = a.networks.now in
-    let s = settings_in a.plmns.now a.bars.now a.config in
-    let at-loop = c.loop-i in
-    let here = c.network_at-p.ensures in
-    let free : unbarred s (network_at l at-loop.i) ≡ true = sym (ap (unbarred s) here) ∙ ap not (sym c.is_barred.ensures ∙ c.if-not-is_barred.true) in
-    ap some here ∙ sym (at-loop.invariant.1 ∙ first_here (network_at l) (unbarred s) at-loop.i (length l / 4) c.loop-i-test.true free)
-
-pub loop-i-preserved : goal.loop-i-preserved
-unfolding unbarred
-loop-i-preserved c =
-    let a = c.args in
-    let l = a.networks.now in
-    let s = settings_in a.plmns.now a.bars.now a.config in
-    let at-loop = c.loop-i in
-    let here = c.network_at-p.ensures in
-    let taken_out : unbarred s (network_at l at-loop.i) ≡ false = sym (ap (unbarred s) here) ∙ ap not (sym c.is_barred.ensures ∙ c.if-not-is_barred.false) in
-    (search rules, at-loop.invariant.1 ∙ first_more (network_at l) (unbarred s) at-loop.i (length l / 4) c.loop-i-test.true taken_out)
-
 pub returns : goal.returns
-unfolding plmn_option
+unfolding unranked unbarred networks_in
 returns c =
-    let a = c.args in
-    let l = a.networks.now in
-    sym (c.loop-i.invariant.1 ∙ first_none (network_at l) (unbarred (settings_in a.plmns.now a.bars.now a.config)) c.loop-i.i (length l / 4) c.loop-i-test.false)
+    let l = c.args.networks.now in
+    let s = settings_of c.args.configuration in
+    let run = c.find.ensures.runs.0 in
+    let behind = c.map.ensures.runs run run.seen c.find.ensures.runs.1 in
+    let number : (i : ℕ) → i < run.len → option_map (λ y. y) (behind.0.at i) ≡ Some i = search (rules, ranges) in
+    let item : (i : ℕ) → option_map (λ y. y) (behind.0.at i) ≡ Some i → option_map (λ y. y) (run.at i) ≡ Some (network_at l i) = search (rules, ranges) in
+    let passed : (i : ℕ) → c.find.result ≡ None → option_map (λ y. y) (run.at i) ≡ Some (network_at l i) → barred s (network_at l i) ≡ true = search (rules, ranges) in
+    let size : c.find.result ≡ None → run.len ≡ length l / 4 = search (rules, ranges) in
+    let here : (p : Plmn) → c.find.result ≡ Some p → (i : ℕ) × (run.len ≡ i + 1) × (i < length l / 4) × (network_at l i ≡ p) × (barred s p ≡ false) = search (rules, ranges) in
+    let before : (p : Plmn) → c.find.result ≡ Some p → (i j : ℕ) → run.len ≡ i + 1 → j < i → option_map (λ y. y) (behind.0.at j) ≡ Some j → barred s (network_at l j) ≡ true = search (rules, ranges) in
+    first_row (network_at l) (unbarred s) (length l / 4) c.find.result (λ e i less. ap not (passed i e (item i (number i (omega (arith, size e))))))
+    (λ p e. let h = here p e in (h.0, h.2, h.3, ap not h.4, λ j less. ap not (before p e h.0 j h.1 less (number j (omega (arith, h.1))))))

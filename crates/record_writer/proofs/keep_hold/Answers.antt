@@ -5,4 +5,4 @@ use Rattle.record_writer.proofs.keep_hold.Goals as goal
 pub returns : goal.returns
 returns c =
     let a = c.args in
-    λ d is. hold_kept a.b.now c.requires.1 d is a.time a.end a.count c.requires.2 c.read_address-address.ensures c.drop_ended.ensures c.add_hold.ensures c.put_head.ensures
+    λ d is. hold_kept a.b.now c.requires.1 d is a.time a.end c.read_address-address.ensures c.drop_ended.ensures c.add_hold.ensures c.put_head.ensures

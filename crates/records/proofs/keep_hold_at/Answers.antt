@@ -11,7 +11,7 @@ use Rattle.records.proofs.keep_hold_at.Goals as goal
 pub keep_hold-requires : goal.keep_hold-requires
 keep_hold-requires c =
     let used = c.requires in
-    (lent_size _ _ used.0, lent_sound _ _ used.0, used.1)
+    (lent_size _ _ used, lent_sound _ _ used)
 
 pub returns : goal.returns
 returns c =
@@ -19,4 +19,4 @@ returns c =
     let l = a.table.now in
     let used = c.requires in
     let put = c.keep_hold in
-    λ d is. changed_at l a.i used.0 (held_for a.time d a.end a.count) _ (put.ensures d (ap (λ (r : List ℕ). chosen (line_from r).phase) (lent_is l a.i) ∙ is)) put.auto.b
+    λ d is. changed_at l a.i used (held_for a.time d a.end) _ (put.ensures d (ap (λ (r : List ℕ). chosen (line_from r).phase) (lent_is l a.i) ∙ is)) put.auto.b

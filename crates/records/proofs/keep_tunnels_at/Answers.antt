@@ -1,5 +1,4 @@
 -- `records::keep_tunnels_at` meets its contract: the octets of one record are those of the line with its children.
-use lib.ListN.{take}
 use Rattle.record.specs.Changes.{with_children}
 use Rattle.records.proofs.Within.{goes_at, lent_size, lent_sound}
 use Rattle.records.proofs.keep_tunnels_at.Goals as goal
@@ -14,4 +13,4 @@ returns c =
     let a = c.args in
     let used = c.requires in
     let put = c.keep_tunnels in
-    goes_at a.table.now a.i used.0 a.time a.s (λ x. with_children x (take a.n a.list)) _ put.ensures put.auto.b
+    goes_at a.table.now a.i used.0 a.time a.s (λ x. with_children x a.children.now) _ put.ensures put.auto.b

@@ -18,5 +18,4 @@ read_unheld-requires c =
 pub returns : goal.returns
 unfolding slot
 returns c =
-    let r = c.read_unheld.ensures in
-    record { result_value = r.result_value ∙ ap (λ (s : List ℕ). unheld (bare (line_from s).phase) (line_from s).children) c.part.ensures.0; in_arrays = r.in_arrays }
+    c.read_unheld.ensures ∙ ap (λ (s : List ℕ). unheld (bare (line_from s).phase) (line_from s).children) c.part.ensures.0

@@ -16,5 +16,4 @@ read_unlisted-requires c = search rules
 pub returns : goal.returns
 unfolding slot
 returns c =
-    let r = c.read_unlisted.ensures in
-    record { result_value = r.result_value ∙ ap (λ (s : List ℕ). unheld (bare (line_from s).phase) []) c.part.ensures.0; in_arrays = r.in_arrays }
+    c.read_unlisted.ensures ∙ ap (λ (s : List ℕ). unheld (bare (line_from s).phase) []) c.part.ensures.0

@@ -1,44 +1,36 @@
 -- `session::eap_success` meets its contract: Success is due where its identifier is that of the last reply.
+use mathlib.Core.Path.{refl}
+use borrow.Author.Rules.{rules}
 use borrow.Author.Tests.{eq-eqb, ne_eqb}
 use Rattle.phase.specs.Chosen.{chosen}
-use Rattle.phase.proofs.Stages.{not_eap}
+use Rattle.phase.specs.Stage as Stage
+use Rattle.phase.proofs.Stages.{other_stage, tags}
 use Rattle.record.specs.Changes.{in_phase}
 use Rattle.record.specs.Line.{line_of}
 use Rattle.rules.specs.Life.{goes, keeps, onward, packet_taken}
 use Rattle.rules.specs.Phases.{last_reply, turn_in}
 use Rattle.rules.specs.Refusals.{is_due, is_identifier}
-use Rattle.session.proofs.Packets.{due, not_due}
 use Rattle.session.proofs.Turns.{no_turn, unanswered}
 use Rattle.session.proofs.eap_success.Goals as goal
 
-pub refused-requires : goal.refused-requires
-refused-requires c = c.requires.0
-
 pub returns-in_default : goal.returns-in_default
-unfolding is_due line_of last_reply is_identifier
-returns-in_default c = not_due _ _ _ _ (rw (no_turn _ (not_eap _ c.in_default.not-Eap))) c.refused.ensures
+unfolding is_due is_identifier line_of turn_in
+returns-in_default c = record { not_due = rw (c.in_default.is, unanswered c.in_default.field-1 (search rules)) refl; refused = refl }
 
-pub refused-requires-in_default-turn : goal.refused-requires-in_default-turn
-refused-requires-in_default-turn c = c.requires.0
-
-pub returns-in_default-turn : goal.returns-in_default-turn
-unfolding is_due line_of turn_in is_identifier
-returns-in_default-turn c =
-    not_due _ _ _ _ (rw (c.in-Eap.is, unanswered _ c.in_default-turn.not-Answered)) c.refused-in_default-turn.ensures
-
-pub refused-requires-then-identifier-last : goal.refused-requires-then-identifier-last
-refused-requires-then-identifier-last c = c.requires.0
+pub returns-in_default-2 : goal.returns-in_default-2
+unfolding is_due is_identifier line_of last_reply
+returns-in_default-2 c = record { not_due = rw (no_turn c.args.found.phase (other_stage Stage.eap _ tags (search rules))) refl; refused = refl }
 
 pub returns-then-identifier-last : goal.returns-then-identifier-last
 unfolding is_due line_of turn_in last_reply is_identifier
 returns-then-identifier-last c =
-    not_due _ _ _ _ (rw (c.in-Eap.is, c.in-Answered.is, ne_eqb _ _ c.if-identifier-last.true)) c.refused-then-identifier-last.ensures
-
-pub goes-requires : goal.goes-requires
-goes-requires c = c.requires.1
+    let was = c.in-Eap-default-Answered in
+    let turn = rw was.is at was.field-1-is in
+    record { not_due = rw (was.is, turn) (ne_eqb _ _ (rw (was.is, turn) at c.if-identifier-last.true)); refused = refl }
 
 pub returns : goal.returns
 unfolding is_due line_of turn_in last_reply is_identifier packet_taken keeps goes in_phase onward chosen
 returns c =
-    let in_eap_lem = c.in-Eap.is in
-    due _ _ _ _ (rw (in_eap_lem, c.in-Answered.is, eq-eqb _ _ c.if-identifier-last.false)) (rw in_eap_lem c.goes.ensures)
+    let was = c.in-Eap-default-Answered in
+    let turn = rw was.is at was.field-1-is in
+    record { due = rw (was.is, turn) (eq-eqb _ _ (rw (was.is, turn) at c.if-identifier-last.false)); line_is = rw was.is c.in_phase.ensures; action_is = refl }

@@ -1,18 +1,24 @@
 -- `session::lacks_parameters` meets its contract: only a first turn asks for AN-parameters.
-use Rattle.phase.proofs.Stages.{not_eap}
+use mathlib.Core.Path.{refl, ◌∙◌}
+use lib.ListN.{length}
+use borrow.Author.Rules.{rules}
+use Rattle.phase.specs.Stage as Stage
+use Rattle.phase.proofs.Stages.{other_stage, tags}
 use Rattle.rules.specs.Phases.{is_first, turn_in}
 use Rattle.rules.specs.Refusals.{lacks_parameters}
-use Rattle.session.proofs.Turns.{no_turn, not_first}
+use Rattle.session.proofs.Turns.{no_turn, none_short, not_first}
 use Rattle.session.proofs.lacks_parameters.Goals as goal
 
-pub returns-in_default : goal.returns-in_default
-unfolding lacks_parameters is_first
-returns-in_default c = rw (no_turn _ (not_eap _ c.in_default.not-Eap))
-
-pub returns-in_default-turn : goal.returns-in_default-turn
-unfolding lacks_parameters turn_in
-returns-in_default-turn c = rw (c.in-Eap.is, not_first _ c.in_default-turn.not-First)
-
-pub returns : goal.returns
+pub returns-in-Eap-default-First : goal.returns-in-Eap-default-First
 unfolding lacks_parameters turn_in is_first
-returns c = rw (c.in-Eap.is, c.in-First.is)
+returns-in-Eap-default-First c =
+    let was = c.in-Eap-default-First in
+    rw (was.is, (rw was.is at was.field-1-is)) (c.is_empty.ensures ∙ none_short (length c.args.parameters.now))
+
+pub returns-in_default : goal.returns-in_default
+unfolding lacks_parameters turn_in is_first
+returns-in_default c = rw (c.in_default.is, not_first c.in_default.field-1 (search rules)) refl
+
+pub returns-in_default-2 : goal.returns-in_default-2
+unfolding lacks_parameters is_first
+returns-in_default-2 c = rw (no_turn c.args.phase (other_stage Stage.eap _ tags (search rules))) refl

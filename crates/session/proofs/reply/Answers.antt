@@ -1,96 +1,62 @@
 -- `session::reply` meets its contract: the tests stand in the order of their numbers, and what is owed is answered.
+use Rattle.std.specs.Prelude.{Some}
+use mathlib.Core.Bool.{true, ◌||◌}
 use mathlib.Core.Logic.{⊎_elim}
-use mathlib.Core.Option.{some}
-use mathlib.Core.Path.{◌≡◌, refl, sym, ap, ◌∙◌}
-use Rattle.phase.proofs.Stages.{not_eap}
+use mathlib.Core.Path.{◌≡◌, refl, sym}
+use borrow.Author.Rules.{rules}
+use Rattle.phase.specs.Stage as Stage
+use Rattle.phase.proofs.Stages.{other_stage, tags}
+use Rattle.record.specs.Line.{line_of}
+use Rattle.response.specs.Response.{lent_out_of_range}
+use Rattle.rules.specs.Answer.{event_room}
+use Rattle.rules.specs.Call.{reply}
 use Rattle.rules.specs.Phases.{owed, turn_in}
-use Rattle.step.proofs.Steps.{late}
-use Rattle.session.proofs.Replies.{Passed, answered, away, clear, fits, ill_formed_lem, lacking, none_owed, out}
+use Rattle.rules.specs.Refusals.{is_allowed, is_malformed, is_out_of_range, lacks_parameters}
+use Rattle.step.proofs.Shown.{late, malformed, unfit, untimely}
+use Rattle.session.proofs.Replies.{answered, clear, fits}
 use Rattle.session.proofs.Turns.{no_turn, owes}
 use Rattle.session.proofs.reply.Goals as goal
-use Rattle.session.proofs.reply.Goals.{in-First, in-First-2}
+use Rattle.session.proofs.reply.Goals.{in-First, in-First-2, then-is_out_of_range-via-then-is_out_of_range, then-is_out_of_range-via-else-is_out_of_range+then-lacks_parameters}
 
-pub returns-then-is_late : goal.returns-then-is_late
-returns-then-is_late c =
-    let cleared = c.zero.ensures in
-    let all = away _ _ _ _ _ _ _ c.current-found.ensures.result_value _ cleared 7 (late _ _ _ (sym c.is_late.ensures ∙ c.if-is_late.true)) c.refused.ensures in
-    record { buffer_after = all.0; in_arrays = all.1 }
+pub returns-in_err-found : goal.returns-in_err-found
+unfolding event_room
+returns-in_err-found c = rw c.zero.ensures (late (reply _ _ _) _ _ c.from_residual.ensures c.in_err-found.ensures)
 
 pub returns-then-is_out_of_range : goal.returns-then-is_out_of_range
+unfolding event_room is_out_of_range line_of
 returns-then-is_out_of_range c =
-    let cleared = c.zero.ensures in
-    let timely = sym c.is_late.ensures ∙ c.if-is_late.false in
-    let all = out _ _ _ _ _ _ _ c.current-found.ensures.result_value _ cleared timely (sym c.is_out_of_range.ensures ∙ c.if-is_out_of_range.true) c.refused-then-is_out_of_range.ensures in
-    record { buffer_after = all.0; in_arrays = all.1 }
-
-pub returns-then-lacks_parameters : goal.returns-then-lacks_parameters
-returns-then-lacks_parameters c =
-    let cleared = c.zero.ensures in
-    let timely = sym c.is_late.ensures ∙ c.if-is_late.false in
-    let fit = sym c.is_out_of_range.ensures ∙ c.if-is_out_of_range.false in
-    let all = lacking _ _ _ _ _ _ _ c.current-found.ensures.result_value _ cleared timely fit (sym c.lacks_parameters.ensures ∙ c.if-lacks_parameters.true) c.refused-then-lacks_parameters.ensures in
-    record { buffer_after = all.0; in_arrays = all.1 }
+    let out : lent_out_of_range c.args.parameters.now c.args.nas.now || lacks_parameters c.args.parameters.now c.in_ok-found.found.phase ≡ true =
+    elim c.then-is_out_of_range.branch [
+      | then-is_out_of_range-via-then-is_out_of_range w ↦ search rules
+      | then-is_out_of_range-via-else-is_out_of_range+then-lacks_parameters w ↦ search rules
+    ] in
+    rw c.zero.ensures (unfit (reply _ _ _) c.in_ok-found.ensures out)
 
 pub returns-then-not-well_formed : goal.returns-then-not-well_formed
+unfolding event_room is_malformed is_out_of_range line_of
 returns-then-not-well_formed c =
-    let broken = sym c.well_formed-2.ensures ∙ c.if-not-well_formed.true in
-    let passed : Passed c.args.parameters.now c.args.nas.now c.args.time c.current-found.result = record {
-      timely = sym c.is_late.ensures ∙ c.if-is_late.false;
-      fit = sym c.is_out_of_range.ensures ∙ c.if-is_out_of_range.false;
-      enough = sym c.lacks_parameters.ensures ∙ c.if-lacks_parameters.false;
-    } in
-    let all = ill_formed_lem _ _ _ _ _ _ _ c.current-found.ensures.result_value _ c.zero.ensures passed broken c.refused-then-not-well_formed.ensures in
-    record { buffer_after = all.0; in_arrays = all.1 }
+    rw c.zero.ensures (malformed (reply _ _ _) c.in_ok-found.ensures (search rules) (search rules))
 
 pub returns-in_default : goal.returns-in_default
-unfolding owed
+unfolding event_room is_allowed is_malformed is_out_of_range line_of owed
 returns-in_default c =
-    let formed = sym c.well_formed-2.ensures ∙ c.if-not-well_formed.false in
-    let passed : Passed c.args.parameters.now c.args.nas.now c.args.time c.current-found.result = record {
-      timely = sym c.is_late.ensures ∙ c.if-is_late.false;
-      fit = sym c.is_out_of_range.ensures ∙ c.if-is_out_of_range.false;
-      enough = sym c.lacks_parameters.ensures ∙ c.if-lacks_parameters.false;
-    } in
-    let all = none_owed _ _ _ _ _ _ _ c.current-found.ensures.result_value _ c.zero.ensures passed formed
-    (ap owed (no_turn _ (not_eap _ c.in_default.not-Eap))) c.refused-in_default.ensures in
-    record { buffer_after = all.0; in_arrays = all.1 }
+    rw c.zero.ensures (untimely (reply _ _ _) c.in_ok-found.ensures (search rules) (search rules) (rw (no_turn c.in_ok-found.found.phase (other_stage Stage.eap _ tags (search rules))) refl))
 
 pub returns-in_default-turn : goal.returns-in_default-turn
-unfolding owed turn_in
+unfolding event_room is_allowed is_malformed is_out_of_range line_of owed turn_in
 returns-in_default-turn c =
-    let formed = sym c.well_formed-2.ensures ∙ c.if-not-well_formed.false in
-    let passed : Passed c.args.parameters.now c.args.nas.now c.args.time c.current-found.result = record {
-      timely = sym c.is_late.ensures ∙ c.if-is_late.false;
-      fit = sym c.is_out_of_range.ensures ∙ c.if-is_out_of_range.false;
-      enough = sym c.lacks_parameters.ensures ∙ c.if-lacks_parameters.false;
-    } in
-    let all = none_owed _ _ _ _ _ _ _ c.current-found.ensures.result_value _ c.zero.ensures passed formed
-    (rw (c.in-Eap.is, c.in_default-turn.is)) c.refused-in_default-turn.ensures in
-    record { buffer_after = all.0; in_arrays = all.1 }
+    rw c.zero.ensures (untimely (reply _ _ _) c.in_ok-found.ensures (search rules) (search rules) (rw (c.in-Eap.is, c.in_default-turn.is) refl))
 
 pub fill_response-n-requires : goal.fill_response-n-requires
-fill_response-n-requires c =
-    (fits _ _ (sym c.is_out_of_range.ensures ∙ c.if-is_out_of_range.false) _ c.requires.1 _ c.zero.ensures, clear _ _ c.zero.ensures)
-
-pub shape_of-buffer : goal.shape_of-buffer
-shape_of-buffer c =
-    c.fill_response-n.auto.packet ∙ c.zero.auto.s
+fill_response-n-requires c = (fits _ _ (sym c.if-is_out_of_range.ensures) _ c.requires _ c.zero.ensures, clear _ _ c.zero.ensures)
 
 pub returns : goal.returns
-unfolding owed
+unfolding event_room is_malformed is_out_of_range line_of owed
 returns c =
     let put = c.fill_response-n.ensures in
-    let formed = sym c.well_formed-2.ensures ∙ c.if-not-well_formed.false in
-    let is-owed : owed (some c.in-Eap.turn) ≡ some c.match-turn.identifier =
+    let is_owed : owed (Some c.in-Eap.turn) ≡ Some c.match-turn.identifier =
     elim c.match-turn.branch [
       | in-First w ↦ ⊎_elim (λ e. owes e refl w.identifier-is) (λ e. owes e refl w.identifier-is) w.in-First.is
       | in-First-2 w ↦ ⊎_elim (λ e. owes e refl w.identifier-is) (λ e. owes e refl w.identifier-is) w.in-First.is
     ] in
-    let passed : Passed c.args.parameters.now c.args.nas.now c.args.time c.current-found.result = record {
-      timely = sym c.is_late.ensures ∙ c.if-is_late.false;
-      fit = sym c.is_out_of_range.ensures ∙ c.if-is_out_of_range.false;
-      enough = sym c.lacks_parameters.ensures ∙ c.if-lacks_parameters.false;
-    } in
-    let all = answered _ _ _ _ _ _ _ c.current-found.ensures.result_value _ c.zero.ensures passed formed
-    c.in-Eap.is is-owed put.count _ put.buffer c.goes.ensures in
-    record { buffer_after = all.0; in_arrays = all.1 }
+    answered c.args.parameters.now c.args.nas.now c.zero.new.s _ c.in_ok-found.ensures c.zero.ensures (search rules) (search rules) c.in-Eap.is is_owed c.in_phase.ensures put.count put.buffer

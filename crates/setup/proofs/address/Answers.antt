@@ -1,31 +1,30 @@
--- `setup::address` meets its contract.
+-- `setup::address` meets its contract: what the answer comes to on the line is what the call returns.
 use mathlib.Core.Path.{refl}
 use Rattle.octets.specs.Part.{zeros}
 use Rattle.record.specs.Changes.{in_force, with_holds}
 use Rattle.rules.specs.Answer.{event_room, room_of}
 use Rattle.rules.specs.Call.{address}
 use Rattle.rules.specs.Refusals.{is_short, least_event_room, least_room}
-use Rattle.settling.proofs.Timed.{turned_away}
-use Rattle.setup.proofs.Addressed.{addressed}
+use Rattle.std.proofs.lemmas.Result.{err_from_is_err_and}
+use Rattle.frame.proofs.Stores.{stored}
+use Rattle.frame.proofs.Timed.{turned_away}
+use Rattle.setup.proofs.Addressed.{addressed, unanswered}
 use Rattle.setup.proofs.address.Goals as goal
 
-pub returns-then-entered-ne0 : goal.returns-then-entered-ne0
+pub returns-in_err-entered : goal.returns-in_err-entered
 unfolding is_short room_of least_room least_event_room event_room zeros
-returns-then-entered-ne0 c = turned_away _ _ _ (address _) _ _ _ refl c.enter-entered.ensures c.if-entered-ne0.true _ _ _ refl refl refl
+returns-in_err-entered c =
+    let p = err_from_is_err_and c.from_residual.result c.from_residual.ensures.1 in
+    rw (p.1, p.2) (turned_away _ _ _ (address _) _ _ refl _ c.in_err-entered.ensures refl)
 
-pub unlisted_at-found-requires : goal.unlisted_at-found-requires
-unlisted_at-found-requires c = (c.enter-entered.ensures.passes c.if-entered-ne0.false).stands.used
-
-pub held_at-held-requires : goal.held_at-held-requires
-held_at-held-requires c = (c.enter-entered.ensures.passes c.if-entered-ne0.false).stands.used
-
-pub settle-requires : goal.settle-requires
-settle-requires c = (c.enter-entered.ensures.passes c.if-entered-ne0.false).stands
+pub returns-in_err-done : goal.returns-in_err-done
+unfolding in_force with_holds
+returns-in_err-done c =
+    let p = err_from_is_err_and c.from_residual-in_err-done.result c.from_residual-in_err-done.ensures.1 in
+    rw (p.1, p.2) (unanswered _ _ _ _ _ c.in_ok-entered.ensures c.unlisted_at.ensures _ _ (c.in_err-done.ensures.hs_value _ c.held_at-held.ensures))
 
 pub returns : goal.returns
-unfolding is_short room_of least_room least_event_room event_room in_force with_holds
+unfolding in_force with_holds
 returns c =
-    let settle = c.settle in
-    let passes = c.enter-entered.ensures.passes c.if-entered-ne0.false in
-    addressed _ _ _ _ _ _ passes _ refl c.answered-stepped.result c.unlisted_at-found.ensures.result_value (c.answered-stepped.ensures.hs_value _ c.held_at-held.ensures) c.move_of.ensures
-    _ _ _ settle.ensures.value settle.ensures.answer_after settle.ensures.table_after
+    let passes = c.in_ok-entered.ensures in
+    addressed _ _ _ _ _ passes c.unlisted_at.ensures _ _ (c.in_ok-done.ensures.hs_value _ c.held_at-held.ensures) (stored _ _ passes.stands _ c.keep_at.ensures)

@@ -1,36 +1,52 @@
--- `setup::country` meets its contract.
-use mathlib.Core.Path.{refl}
+-- `setup::country` meets its contract: what the choice comes to on the line is what the call returns.
+use mathlib.Core.List.{[]}
+use Prim.Native.Nat.{ℕ}
+use mathlib.Core.Path.{sym, ap}
 use borrow.Author.Tests.{ltb-false}
+use lib.Dec.{ltb}
+use lib.ListN.{length}
+use Rattle.network.specs.Name.{name_room}
 use Rattle.record.specs.Changes.{current, in_force, with_holds}
 use Rattle.record.specs.Octets.{line_from}
 use Rattle.table.specs.Table.{slot}
 use Rattle.rules.specs.Answer.{event_room, room_of}
 use Rattle.rules.specs.Call.{country}
 use Rattle.rules.specs.Refusals.{is_short, least_event_room, least_room}
-use Rattle.settling.proofs.Timed.{turned_away_named}
+use Rattle.std.proofs.lemmas.Result.{err_from_is_err_and}
+use Rattle.frame.proofs.Timed.{no_part, turned_away}
+use Rattle.setup.proofs.Finishing.{decides, refuses}
 use Rattle.setup.proofs.country.Goals as goal
 
-pub returns-then-entered-ne0 : goal.returns-then-entered-ne0
+pub returns-in_err-entered : goal.returns-in_err-entered
 unfolding is_short room_of least_room least_event_room event_room
-returns-then-entered-ne0 c =
-    let away = c.refuse.ensures in
-    let named = turned_away_named _ _ _ (country _ _ _ _) _ _ _ refl _ _ _ c.enter-entered.ensures c.if-entered-ne0.true _ _ _ away.value away.answer_after away.buffer_after in
-    record { table_after = named.0; part_within = named.1 }
+returns-in_err-entered c =
+    let a = c.args in
+    let p = err_from_is_err_and c.from_residual.result c.from_residual.ensures.1 in
+    let away = no_part _ a.text.now _ [] _ _ (turned_away _ _ _ (country a.replied a.networks.now a.text.now (length a.name.now)) _ _ (ap (λ (k : ℕ). ltb k name_room) (sym c.zero.auto.s)) _ c.in_err-entered.ensures c.zero.ensures) in
+    rw (p.1, p.2) (record { table_after = away.0; part_within = away.1 })
 
-pub awaited_at-awaited-requires : goal.awaited_at-awaited-requires
-awaited_at-awaited-requires c = (c.enter-entered.ensures.passes c.if-entered-ne0.false).stands.used
+pub returns-in_err-selected : goal.returns-in_err-selected
+unfolding is_short room_of least_room least_event_room event_room current in_force with_holds
+returns-in_err-selected c =
+    let a = c.args in
+    let p = err_from_is_err_and c.from_residual-in_err-selected.result c.from_residual-in_err-selected.ensures.1 in
+    let found = current a.time (line_from (slot a.table.now c.in_ok-entered.entered.at)) in
+    let s = c.in_err-selected.ensures found (length a.name.now) c.awaited_at-awaited.ensures in
+    let away = no_part _ a.text.now _ [] _ _ (refuses _ _ _ (country a.replied a.networks.now a.text.now (length a.name.now)) _ _ (ap (λ (k : ℕ). ltb k name_room) (sym c.zero.auto.s)) _ c.in_ok-entered.ensures _ s.refusal_is c.zero.ensures) in
+    rw (p.1, p.2) (record { table_after = away.0; part_within = away.1 })
 
 pub finish-requires : goal.finish-requires
 unfolding current in_force with_holds
 finish-requires c =
-    let found = current c.args.time (line_from (slot c.args.table.now c.enter-entered.result.at)) in
-    let passes = c.enter-entered.ensures.passes c.if-entered-ne0.false in
-    (passes.stands, (c.country_choice-chosen.ensures found 0 c.awaited_at-awaited.ensures).within, ltb-false _ _ passes.buffer_fits)
+    let a = c.args in
+    let passes = c.in_ok-entered.ensures in
+    let found = current a.time (line_from (slot a.table.now c.in_ok-entered.entered.at)) in
+    (passes.stands, (c.in_ok-selected.ensures found 0 c.awaited_at-awaited.ensures).within, ltb-false _ _ passes.buffer_fits)
 
-pub returns : goal.returns
+pub returns-clause-table_after : goal.returns-clause-table_after
 unfolding is_short room_of least_room least_event_room event_room current in_force with_holds
-returns c =
-    let found = current c.args.time (line_from (slot c.args.table.now c.enter-entered.result.at)) in
-    let passes = c.enter-entered.ensures.passes c.if-entered-ne0.false in
-    let named = c.finish.ensures _ _ _ (country _ _ _ _) passes refl refl (c.country_choice-chosen.ensures found _ c.awaited_at-awaited.ensures) in
-    record { table_after = named.0; part_within = named.1 }
+returns-clause-table_after c =
+    let a = c.args in
+    let found = current a.time (line_from (slot a.table.now c.in_ok-entered.entered.at)) in
+    let s = c.in_ok-selected.ensures found (length a.name.now) c.awaited_at-awaited.ensures in
+    decides _ _ _ (country a.replied a.networks.now a.text.now (length a.name.now)) _ _ (ap (λ (k : ℕ). ltb k name_room) (sym c.zero.auto.s)) _ c.in_ok-entered.ensures _ s.refusal_is s.outcome_is c.zero.auto.s c.finish.ensures

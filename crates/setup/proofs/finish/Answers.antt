@@ -1,30 +1,21 @@
--- `setup::finish` meets its contract: the choice was refused, or what it decides is stored and answered.
-use mathlib.Core.Path.{ap, ◌∙◌}
-use Rattle.octets.specs.Part.{zeros}
+-- `setup::finish` meets its contract: what is decided is stored and returned.
+use mathlib.Core.Path.{sym, ap, ◌∙◌}
 use Rattle.record.specs.Changes.{current}
+use Rattle.record.specs.Line.{Line}
 use Rattle.record.specs.Octets.{line_from}
 use Rattle.table.specs.Table.{slot}
-use Rattle.setup.proofs.Finishing.{decides, refuses}
+use Rattle.step.specs.Laws.{stored_by}
+use Rattle.frame.proofs.Stores.{stored}
 use Rattle.setup.proofs.finish.Goals as goal
-
-pub returns-then-chosen-ne0 : goal.returns-then-chosen-ne0
-returns-then-chosen-ne0 c =
-    let away = c.refuse.ensures in
-    λ tenant line short e passes room_is room chooses. refuses tenant line _ e short _ _ room_is passes _ chooses.refusal_is c.if-chosen-ne0.true _ _ _ _ away.value away.answer_after (away.buffer_after ∙ ap zeros room)
-
-pub is_choice_held-held-requires : goal.is_choice_held-held-requires
-is_choice_held-held-requires c = c.requires.0.used
-
-pub decided-moved-requires : goal.decided-moved-requires
-decided-moved-requires c = (c.requires.1, c.requires.2)
-
-pub settle-requires : goal.settle-requires
-settle-requires c = c.requires.0
 
 pub returns : goal.returns
 returns c =
-    let settle = c.settle.ensures in
-    let none = c.if-chosen-ne0.false in
-    let found = current c.args.time (line_from (slot c.args.table.now c.args.entered.at)) in
-    λ tenant line short e passes room_is room chooses. decides tenant line _ e short _ _ room_is passes _ (chooses.refusal_is ∙ none) (chooses.outcome_is none) _ _ _ _ room
-    (c.decided-moved.ensures found c.is_choice_held-held.ensures) _ _ _ settle.value settle.answer_after settle.table_after
+    let a = c.args in
+    let s = c.decided-moved.ensures (current a.time (line_from (slot a.table.now a.entered.at))) c.is_choice_held-held.ensures in
+    record {
+      action_is = s.action_is;
+      part_is = s.part_is;
+      part_within = s.part_within;
+      name_is = s.name_is;
+      table_is = stored a.entered a.table.now c.requires.0 _ c.keep_at.ensures ∙ ap (λ (x : Line). stored_by 0 a.entered.pair x a.table.now) (sym s.line_is);
+    }

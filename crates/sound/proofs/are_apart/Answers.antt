@@ -13,30 +13,23 @@ pub returns-then-m-eq0 : goal.returns-then-m-eq0
 returns-then-m-eq0 c = none_held _ _ c.if-m-eq0.true
 
 pub keys-requires : goal.keys-requires
-keys-requires c =
-    (search rules, c.requires.1.few)
+keys-requires c = (search rules, c.requires.1.few)
 
 pub returns-then-all_differ : goal.returns-then-all_differ
 returns-then-all_differ c =
     let keys = c.keys in
     told_apart _ _ c.requires.0 c.requires.1 _ keys.result keys.ensures (each_differs _ (sym c.all_differ.ensures ∙ c.if-all_differ.true)) c.chosen_key.ensures
 
-pub read_holds-list-requires : goal.read_holds-list-requires
-read_holds-list-requires c =
-    (search rules, c.requires.1.few)
+pub read_holds-holds-requires : goal.read_holds-holds-requires
+read_holds-holds-requires c = (search rules, c.requires.1.few)
 
-pub are_different-requires : goal.are_different-requires
-are_different-requires c = c.requires.1.few
+pub returns-then-are_different : goal.returns-then-are_different
+returns-then-are_different c =
+    let holds = c.read_holds-holds.ensures in
+    c.is_free.ensures ∙ ap₂ (λ p hs. chosen_free (chosen p) (held_addresses hs)) c.read_phase.ensures (c.as_slice-then-are_different.ensures ∙ holds)
+    ∙ by_chosen _ _ (sym (c.are_different.ensures ∙ ap (λ hs. different (held_addresses hs)) (c.as_slice.ensures ∙ holds)) ∙ c.if-are_different.true)
 
-pub returns-then-not-are_different : goal.returns-then-not-are_different
-returns-then-not-are_different c =
-    held_twice _ _ (sym (c.are_different.ensures ∙ ap (λ hs. different (held_addresses hs)) c.read_holds-list.ensures) ∙ c.if-not-are_different.true)
-
-pub is_free-requires : goal.is_free-requires
-is_free-requires c = c.requires.1.few
-
-pub returns : goal.returns
-returns c =
-    let list = c.read_holds-list.ensures in
-    c.is_free.ensures ∙ ap₂ (λ p hs. chosen_free (chosen p) (held_addresses hs)) c.read_phase.ensures list
-    ∙ by_chosen _ _ (sym (c.are_different.ensures ∙ ap (λ hs. different (held_addresses hs)) list) ∙ c.if-not-are_different.false)
+pub returns-else-are_different : goal.returns-else-are_different
+returns-else-are_different c =
+    c.if-are_different.false
+    ∙ held_twice _ _ (sym (c.are_different.ensures ∙ ap (λ hs. different (held_addresses hs)) (c.as_slice.ensures ∙ c.read_holds-holds.ensures)) ∙ c.if-are_different.false)

@@ -1,58 +1,67 @@
--- `sound::is_sound` meets its contract. The loop's invariant: the place is that of a record, the records passed are free or sound, and their
--- pairs stand once and are flagged.
-use Prim.Native.Nat.{ℕ, ◌+◌, ◌*◌, ◌≤◌, ◌<◌}
-use mathlib.Core.Path.{◌≡◌, refl, sym, ◌∙◌}
-use native.Mathlib.Omega.{arith}
-use borrow.Author.Rules.{rules}
+-- `sound::is_sound` meets its contract. The loop's invariant: what is left begins where the next record does, the records passed are free or
+-- sound, and their pairs stand once and are flagged.
+use Rattle.std.proofs.Common.{◌≡◌, ◌+◌, ◌*◌, ◌≤◌, ◌<◌, ◌++◌, ◌∙◌, ℕ, List, length, drop, refl, sym, ap, arith, rules, length-drop, length-append}
+use lib.Seq.{drop_at, drop-drop}
+use Rattle.std.specs.Slice.Iter.{chunks_exact_rest}
 use Rattle.octets.specs.Search.{all}
 use Rattle.octets.proofs.Search.{all_more, and_left, and_right}
+use Rattle.octets.proofs.Stands.{to_part}
 use Rattle.record.specs.Octets.{record_length}
-use Rattle.table.specs.Table.{pair_once, slot_sound, table_length}
+use Rattle.table.specs.Table.{pair_once, record_count, slot, slot_sound, table_length}
 use Rattle.sound.proofs.Seen.{none_seen}
 use Rattle.table.proofs.Slots.{wrong_length, bad_record, all_sound}
 use Rattle.sound.proofs.is_sound.Goals as goal
 
--- the place of a record that is within the table, and of the one behind it
-module _ {at : ℕ} (i : ℕ) (place : at ≡ record_length * i) where
-  more : at < table_length → i + 1 ≤ 32
-  more h = omega arith
+-- what is left of the table begins with a record
+module _ (l : List ℕ) (i : ℕ) (left b rest : List ℕ) (is : left ≡ drop (record_length * i) l) (cut : left ≡ b ++ rest) (size : length b ≡ record_length) where
+  record_is : b ≡ slot l i
+  unfolding slot
+  record_is = sym (to_part b record_length size (record { stands = sym is ∙ cut }))
 
-  within : at < table_length → {n : ℕ} → n ≡ table_length → at + record_length ≤ n
-  within h e = omega arith
+  rest_is : rest ≡ drop (record_length * (i + 1)) l
+  rest_is =
+      let place : record_length * i + record_length ≡ record_length * (i + 1) = omega arith in
+      sym (drop_at b rest record_length size) ∙ ap (drop record_length) (sym cut ∙ is) ∙ drop-drop record_length (record_length * i) l ∙ ap (λ (k : ℕ). drop k l) place
 
-  next_place : at + record_length ≡ record_length * (i + 1)
-  next_place = omega arith
+  more : length l ≡ table_length → i + 1 ≤ record_count
+  more whole = omega (arith, ap length is, ap length cut, length-append b rest, length-drop (record_length * i) l)
 
-  last : i ≤ 32 → table_length ≤ at → i ≡ 32
-  last h k = omega arith
+-- no record is left
+last : (l : List ℕ) (i : ℕ) {left : List ℕ} → left ≡ drop (record_length * i) l → length left < record_length → length l ≡ table_length → i ≤ record_count → i ≡ record_count
+last l i is short whole most = omega (arith, ap length is, length-drop (record_length * i) l)
 
 pub returns-then-table-ne-TABLE : goal.returns-then-table-ne-TABLE
 returns-then-table-ne-TABLE c = wrong_length _ c.if-table-ne-TABLE.true
 
-pub loop-at-init : goal.loop-at-init
+pub loop-b-init : goal.loop-b-init
 unfolding all
-loop-at-init c = (0, refl, search rules, refl, refl, none_seen _)
-
-pub is_next-requires : goal.is_next-requires
-is_next-requires c = within c.loop-at.invariant.0 c.loop-at.invariant.1 c.loop-at-test.true c.if-table-ne-TABLE.false
+loop-b-init c = (0, search rules, search rules, search rules, refl, refl, none_seen _)
 
 pub returns-then-not-is_next : goal.returns-then-not-is_next
 returns-then-not-is_next c =
-    let at-loop = c.loop-at in
-    let passes = c.is_next.ensures at-loop.invariant.0 at-loop.invariant.1 at-loop.invariant.5 in
-    bad_record _ c.if-table-ne-TABLE.false at-loop.invariant.0 (more at-loop.invariant.0 at-loop.invariant.1 c.loop-at-test.true) (sym passes.tells ∙ c.if-not-is_next.true)
-
-pub loop-at-preserved : goal.loop-at-preserved
-loop-at-preserved c =
     let l = c.args.table.now in
-    let at-loop = c.loop-at in
-    let i = at-loop.invariant.0 in
-    let passes = c.is_next.ensures i at-loop.invariant.1 at-loop.invariant.5 in
-    let stands = c.if-not-is_next.false in
-    let both = sym passes.tells ∙ stands in
-    (i + 1, next_place i at-loop.invariant.1, more i at-loop.invariant.1 c.loop-at-test.true, all_more i (slot_sound l) at-loop.invariant.3 (and_left (slot_sound l i) (pair_once l i) both), all_more i (pair_once l) at-loop.invariant.4 (and_right (slot_sound l i) (pair_once l i) both), passes.flags stands)
+    let at_loop = c.loop-b.invariant in
+    let i = at_loop.0 in
+    let cut = c.in-Some.ensures.steps.1 in
+    let size : length c.in-Some.b.now ≡ record_length = cut.1 ∙ at_loop.1 in
+    let passes = c.is_next.ensures l i (record_is l i _ _ _ at_loop.2 cut.0 size) at_loop.6 in
+    bad_record l c.if-table-ne-TABLE.false i (more l i _ _ _ at_loop.2 cut.0 size c.if-table-ne-TABLE.false) (sym passes.tells ∙ c.if-not-is_next.true)
+
+pub loop-b-preserved : goal.loop-b-preserved
+loop-b-preserved c =
+    let l = c.args.table.now in
+    let at_loop = c.loop-b.invariant in
+    let i = at_loop.0 in
+    let steps = c.in-Some.ensures.steps in
+    let cut = steps.1 in
+    let size : length c.in-Some.b.now ≡ record_length = cut.1 ∙ at_loop.1 in
+    let passes = c.is_next.ensures l i (record_is l i _ _ _ at_loop.2 cut.0 size) at_loop.6 in
+    let both = sym passes.tells ∙ c.if-not-is_next.false in
+    (i + 1, steps.0 ∙ at_loop.1, rest_is l i _ _ _ at_loop.2 cut.0 size, more l i _ _ _ at_loop.2 cut.0 size c.if-table-ne-TABLE.false, all_more i (slot_sound l) at_loop.4 (and_left (slot_sound l i) (pair_once l i) both), all_more i (pair_once l) at_loop.5 (and_right (slot_sound l i) (pair_once l i) both), passes.flags c.if-not-is_next.false)
 
 pub returns : goal.returns
 returns c =
-    let at-loop = c.loop-at in
-    all_sound _ c.if-table-ne-TABLE.false at-loop.invariant.0 (last at-loop.invariant.0 at-loop.invariant.1 at-loop.invariant.2 c.loop-at-test.false) at-loop.invariant.3 at-loop.invariant.4
+    let l = c.args.table.now in
+    let at_loop = c.loop-b.invariant in
+    let short : length (chunks_exact_rest c.loop-b.b-iterator) < record_length = omega (arith, c.in-None.ensures.steps.1.0, at_loop.1) in
+    all_sound l c.if-table-ne-TABLE.false at_loop.0 (last l at_loop.0 at_loop.2 short c.if-table-ne-TABLE.false at_loop.3) at_loop.4 at_loop.5

@@ -1,40 +1,34 @@
--- `calls::signalling::congested` meets its contract.
-use mathlib.Core.Path.{refl}
-use native.Mathlib.Omega.{arith}
+-- `calls::signalling::congested` meets its contract: the address of a line that is released is held.
+use Rattle.std.specs.Prelude.{slice_get}
+use mathlib.Core.List.{List}
+use mathlib.Core.Path.{refl, ap, ◌∙◌}
+use borrow.Author.Rules.{rules}
 use Rattle.octets.specs.Part.{zeros}
-use Rattle.address.specs.declared.Address.TheVariants.{V4}
-use Rattle.address.specs.declared.End.TheVariants.{Never}
+use Rattle.address.specs.declared.Hold.{Hold}
 use Rattle.rules.specs.Answer.{event_room, room_of}
 use Rattle.rules.specs.Call.{congestion}
 use Rattle.rules.specs.Refusals.{is_short, least_event_room, least_room}
-use Rattle.lent.proofs.Unheld.{unheld_sound}
-use Rattle.settling.proofs.Timed.{turned_away}
-use Rattle.calls.proofs.Timed.{one_hold, released}
+use Rattle.std.proofs.lemmas.Result.{err_from_is_err_and}
+use Rattle.frame.proofs.Timed.{turned_away}
+use Rattle.calls.proofs.Timed.{end_of_first, released, uncongested}
+use Rattle.calls.proofs.Unheld.{unheld_sound}
 use Rattle.calls.proofs.signalling.congested.Goals as goal
 
-pub returns-then-entered-ne0 : goal.returns-then-entered-ne0
+pub returns-in_err-entered : goal.returns-in_err-entered
 unfolding is_short room_of least_room least_event_room event_room zeros
-returns-then-entered-ne0 c = turned_away _ _ _ (congestion _ _) _ _ _ refl c.enter-entered.ensures c.if-entered-ne0.true _ _ _ refl refl refl
+returns-in_err-entered c =
+    let p = err_from_is_err_and c.from_residual.result c.from_residual.ensures.1 in
+    rw (p.1, p.2) (turned_away _ _ _ (congestion _ _) _ _ refl _ c.in_err-entered.ensures refl)
 
-pub unlisted_at-found-requires : goal.unlisted_at-found-requires
-unlisted_at-found-requires c = (c.enter-entered.ensures.passes c.if-entered-ne0.false).stands.used
+pub congested-requires : goal.congested-requires
+congested-requires c = unheld_sound _ _ _ c.unlisted_at-found.ensures
 
-pub congested-stepped-requires : goal.congested-stepped-requires
-congested-stepped-requires c =
-    let read = c.unlisted_at-found.ensures in
-    (read.in_arrays, unheld_sound _ _ _ read.result_value)
-
-pub settle_hold-requires : goal.settle_hold-requires
-settle_hold-requires c =
-    let passes = c.enter-entered.ensures.passes c.if-entered-ne0.false in
-    let held = c.congested-stepped.ensures.in_arrays.0 in
-    (passes.stands, one_hold _ _ _ _ _ _ passes _ _ c.congested-stepped.result _ c.unlisted_at-found.ensures.result_value c.congested-stepped.ensures.result_value (omega (arith, held, c.first_end.ensures.1)))
+pub returns-in_err-done : goal.returns-in_err-done
+returns-in_err-done c =
+    let p = err_from_is_err_and c.from_residual-in_err-done.result c.from_residual-in_err-done.ensures.1 in
+    rw (p.1, p.2) (uncongested _ _ _ _ _ c.in_ok-entered.ensures c.unlisted_at-found.ensures _ _ _ c.in_err-done.ensures)
 
 pub returns : goal.returns
-unfolding is_short room_of least_room least_event_room event_room
 returns c =
-    let settle = c.settle_hold in
-    let passes = c.enter-entered.ensures.passes c.if-entered-ne0.false in
-    let held = c.congested-stepped.ensures.in_arrays.0 in
-    released _ _ _ _ _ _ passes _ _ c.congested-stepped.result _ c.unlisted_at-found.ensures.result_value c.congested-stepped.ensures.result_value (omega (arith, held, c.first_end.ensures.1)) refl
-    (record { address = V4 0; end = Never }) _ (c.first_end.ensures.0 _) c.went_of.ensures _ _ _ settle.ensures.value settle.ensures.answer_after settle.ensures.table_after
+    released _ _ _ _ _ c.in_ok-entered.ensures c.unlisted_at-found.ensures _ _ _ c.in_ok-done.ensures
+    (end_of_first _ _ _ (c.first-hold.ensures.value ∙ ap (λ (hs : List Hold). slice_get hs 0) c.as_slice.ensures) c.map.ensures.cases (λ h e called. search rules)) c.keep_hold_at.ensures

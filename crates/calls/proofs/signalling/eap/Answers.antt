@@ -1,34 +1,34 @@
--- `calls::signalling::eap` meets its contract.
+-- `calls::signalling::eap` meets its contract: what the packet comes to on the line is what the call returns.
+use mathlib.Core.List.{[]}
 use mathlib.Core.Path.{refl}
 use Rattle.octets.specs.Part.{zeros}
-use Rattle.rules.specs.Answer.{event_room, room_of}
+use Rattle.rules.specs.Answer.{event_room, numbers_of, room_of, twelve}
 use Rattle.rules.specs.Call.{eap}
 use Rattle.rules.specs.Refusals.{is_short, least_event_room, least_room}
-use Rattle.step.proofs.Views.{kind_of}
-use Rattle.settling.proofs.Timed.{stood_named, turned_away_named}
+use Rattle.std.proofs.lemmas.Result.{err_from_is_err_and}
+use Rattle.frame.proofs.Timed.{no_part, stayed, stood, turned_away}
 use Rattle.calls.proofs.signalling.eap.Goals as goal
 
-pub returns-then-entered-ne0 : goal.returns-then-entered-ne0
+pub returns-in_err-entered : goal.returns-in_err-entered
 unfolding is_short room_of least_room least_event_room event_room zeros
-returns-then-entered-ne0 c =
-    let named = turned_away_named _ _ _ (eap _) _ _ _ refl _ _ _ c.enter-entered.ensures c.if-entered-ne0.true _ _ _ refl refl refl in
-    record { table_after = named.0; part_within = named.1 }
+returns-in_err-entered c =
+    let p = err_from_is_err_and c.from_residual.result c.from_residual.ensures.1 in
+    let away = no_part _ [] [] c.args.packet.now _ _ (turned_away _ _ _ (eap _) _ _ refl _ c.in_err-entered.ensures refl) in
+    rw (p.1, p.2) (record { table_after = away.0; part_within = away.1 })
 
-pub unlisted_at-found-requires : goal.unlisted_at-found-requires
-unlisted_at-found-requires c = (c.enter-entered.ensures.passes c.if-entered-ne0.false).stands.used
-
-pub eap_packet-stepped-requires : goal.eap_packet-stepped-requires
-eap_packet-stepped-requires c = c.unlisted_at-found.ensures.in_arrays
-
-pub settle_standing-requires : goal.settle_standing-requires
-settle_standing-requires c =
-    (c.enter-entered.ensures.passes c.if-entered-ne0.false).stands
+pub returns-in_err-done : goal.returns-in_err-done
+unfolding is_short room_of least_room least_event_room event_room zeros numbers_of twelve
+returns-in_err-done c =
+    let p = err_from_is_err_and c.from_residual-in_err-done.result c.from_residual-in_err-done.ensures.1 in
+    let is = c.in_err-done.ensures in
+    rw (p.1, p.2)
+    (record { table_after = stayed _ _ _ (eap _) _ _ refl _ c.in_ok-entered.ensures _ _ refl c.unlisted_at.ensures _ is.effect_is; part_within = is.part_within })
 
 pub returns : goal.returns
-unfolding is_short room_of least_room least_event_room event_room zeros kind_of
+unfolding is_short room_of least_room least_event_room event_room zeros
 returns c =
-    let settle = c.settle_standing in
-    let passes = c.enter-entered.ensures.passes c.if-entered-ne0.false in
-    let named = stood_named _ _ _ (eap _) _ _ _ refl _ _ _ refl passes c.eap_packet-stepped.result _ c.unlisted_at-found.ensures.result_value c.eap_packet-stepped.ensures.packet_value c.eap_packet-stepped.ensures.part_within
-    c.went_of.ensures _ _ _ settle.ensures.value settle.ensures.answer_after settle.ensures.gone_to in
-    record { table_after = named.0; part_within = named.1 }
+    let is = c.in_ok-done.ensures in
+    record {
+      table_after = stood _ _ _ (eap _) _ _ refl _ c.in_ok-entered.ensures _ _ refl c.unlisted_at.ensures _ is.effect_is c.standing_of.ensures c.keep_standing_at.ensures;
+      part_within = is.part_within;
+    }

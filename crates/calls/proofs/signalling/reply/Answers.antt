@@ -1,34 +1,27 @@
--- `calls::signalling::reply` meets its contract.
+-- `calls::signalling::reply` meets its contract: what the reply comes to on the line is what the call returns.
 use mathlib.Core.Path.{refl}
 use borrow.Author.Tests.{ltb-false}
 use Rattle.rules.specs.Answer.{event_room, room_of}
 use Rattle.rules.specs.Call.{reply}
 use Rattle.rules.specs.Refusals.{is_short, least_event_room, least_room}
-use Rattle.step.proofs.Views.{kind_of}
-use Rattle.settling.proofs.Timed.{stood, turned_away}
+use Rattle.std.proofs.lemmas.Result.{err_from_is_err_and}
+use Rattle.frame.proofs.Timed.{stayed, stood, turned_away}
 use Rattle.calls.proofs.signalling.reply.Goals as goal
 
-pub returns-then-entered-ne0 : goal.returns-then-entered-ne0
+pub returns-in-Err : goal.returns-in-Err
 unfolding is_short room_of least_room least_event_room event_room
-returns-then-entered-ne0 c =
-    let away = c.refuse.ensures in
-    turned_away _ _ _ (reply _ _ _) _ _ _ refl c.enter-entered.ensures c.if-entered-ne0.true _ _ _ away.value away.answer_after away.buffer_after
+returns-in-Err c = turned_away _ _ _ (reply _ _ _) _ _ refl _ c.in-Err.ensures c.zero.ensures
 
-pub unlisted_at-found-requires : goal.unlisted_at-found-requires
-unlisted_at-found-requires c = (c.enter-entered.ensures.passes c.if-entered-ne0.false).stands.used
+pub reply-requires : goal.reply-requires
+reply-requires c = ltb-false _ _ c.in-Ok.ensures.buffer_fits
 
-pub reply-stepped-requires : goal.reply-stepped-requires
-reply-stepped-requires c =
-    (c.unlisted_at-found.ensures.in_arrays, ltb-false _ _ (c.enter-entered.ensures.passes c.if-entered-ne0.false).buffer_fits)
-
-pub settle_standing-requires : goal.settle_standing-requires
-settle_standing-requires c =
-    (c.enter-entered.ensures.passes c.if-entered-ne0.false).stands
+pub returns-in_err-done : goal.returns-in_err-done
+unfolding is_short room_of least_room least_event_room event_room
+returns-in_err-done c =
+    let p = err_from_is_err_and c.from_residual.result c.from_residual.ensures.1 in
+    rw (p.1, p.2) (stayed _ _ _ (reply _ _ _) _ _ refl _ c.in-Ok.ensures _ _ refl c.unlisted_at.ensures _ c.in_err-done.ensures)
 
 pub returns : goal.returns
-unfolding is_short room_of least_room least_event_room event_room kind_of
+unfolding is_short room_of least_room least_event_room event_room
 returns c =
-    let settle = c.settle_standing in
-    let passes = c.enter-entered.ensures.passes c.if-entered-ne0.false in
-    stood _ _ _ (reply _ _ _) _ _ _ refl refl passes c.reply-stepped.result _ _ c.unlisted_at-found.ensures.result_value c.reply-stepped.ensures.buffer_after
-    c.went_of.ensures _ _ _ settle.ensures.value settle.ensures.answer_after settle.ensures.gone_to
+    stood _ _ _ (reply _ _ _) _ _ refl _ c.in-Ok.ensures _ _ refl c.unlisted_at.ensures _ c.in_ok-done.ensures c.standing_of.ensures c.keep_standing_at.ensures

@@ -1,35 +1,20 @@
--- `calls::tunnels::on_tunnel` meets its contract.
-use mathlib.Core.Path.{refl}
-use Rattle.octets.specs.Part.{zeros}
-use Rattle.record.specs.Line.{line_of}
-use Rattle.tunnel.specs.Events.{tunnel_event_of}
-use Rattle.settling.proofs.Timed.{never_short, no_buffer, turned_away, untunnelled}
-use Rattle.calls.proofs.Timed.{tunnels}
+-- `calls::tunnels::on_tunnel` meets its contract: what the step comes to on the line is what the call returns.
+use Rattle.std.proofs.lemmas.Result.{err_from_is_err_and}
+use Rattle.frame.proofs.Timed.{left, never_short, no_buffer, turned_away, untunnelled}
 use Rattle.calls.proofs.tunnels.on_tunnel.Goals as goal
 
-pub returns-then-entered-ne0 : goal.returns-then-entered-ne0
-unfolding zeros
-returns-then-entered-ne0 c =
-    let event = c.args.event in
-    let is = tunnels event in
-    turned_away _ _ _ (tunnel_event_of event) _ _ _ (never_short _ is.0 is.1 _ _ _) c.enter-entered.ensures c.if-entered-ne0.true _ _ _ refl refl (no_buffer _ is.0)
+pub returns-in_err-entered : goal.returns-in_err-entered
+returns-in_err-entered g c =
+    let p = err_from_is_err_and c.from_residual.result c.from_residual.ensures.1 in
+    rw (p.1, p.2)
+    (λ e is step. turned_away _ _ _ e _ _ (never_short e is.has_none is.needs_none _ _ _) _ c.in_err-entered.ensures (no_buffer e is.has_none))
 
-pub unheld_at-found-requires : goal.unheld_at-found-requires
-unheld_at-found-requires c = (c.enter-entered.ensures.passes c.if-entered-ne0.false).stands.used
-
-pub tunnel_step_of-stepped-requires : goal.tunnel_step_of-stepped-requires
-tunnel_step_of-stepped-requires c = c.unheld_at-found.ensures.in_arrays
-
-pub settle_tunnels-requires : goal.settle_tunnels-requires
-settle_tunnels-requires c =
-    ((c.enter-entered.ensures.passes c.if-entered-ne0.false).stands, c.tunnel_step_of-stepped.ensures.in_arrays.1)
+pub returns-in_err-done : goal.returns-in_err-done
+returns-in_err-done g c =
+    let p = err_from_is_err_and c.from_residual-in_err-done.result c.from_residual-in_err-done.ensures.1 in
+    rw (p.1, p.2)
+    (λ e is step. left _ _ _ e _ _ (never_short e is.has_none is.needs_none _ _ _) _ c.in_ok-entered.ensures _ _ is.kind_is c.unheld_at.ensures _ (step _ _ c.in_err-done.ensures))
 
 pub returns : goal.returns
-unfolding line_of
-returns c =
-    let settle = c.settle_tunnels in
-    let passes = c.enter-entered.ensures.passes c.if-entered-ne0.false in
-    let event = c.args.event in
-    let is = tunnels event in
-    untunnelled _ _ _ (tunnel_event_of event) _ _ _ (never_short _ is.0 is.1 _ _ _) is.2 passes c.tunnel_step_of-stepped.result c.unheld_at-found.ensures.result_value c.tunnel_step_of-stepped.ensures.result_value
-    c.went_of.ensures _ _ _ settle.ensures.value settle.ensures.answer_after settle.ensures.gone_to
+returns g c =
+    λ e is step. untunnelled _ _ _ e _ _ (never_short e is.has_none is.needs_none _ _ _) _ c.in_ok-entered.ensures _ _ is.kind_is c.unheld_at.ensures _ (step _ _ c.in_ok-done.ensures) c.standing_of-standing.ensures c.as_slice.ensures c.keep_tunnels_at.ensures

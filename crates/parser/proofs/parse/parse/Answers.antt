@@ -1,21 +1,30 @@
--- `parser::parse::parse` meets its contract: `home` comes first, and the rest is settled behind it.
-use mathlib.Core.Path.{◌∙◌, subst}
-use Rattle.fields.specs.declared.read.PlmnAt.{PlmnAt}
-use Rattle.entries.specs.Branch.{HomeIs}
-use Rattle.config.specs.Settings.{as_home, with_home}
-use Rattle.parser.proofs.Wholes.{not_parsed, with_home_lem}
+-- `parser::parse::parse` meets its contract: `home` comes first, and what follows it decides.
+use Rattle.std.proofs.Common.{◌∙◌}
+use Rattle.parser.proofs.Wholes.{bad_bars, bad_plmns, finished, home_settled, more_behind}
 use Rattle.parser.proofs.parse.parse.Goals as goal
 
-pub returns-in_default : goal.returns-in_default
-returns-in_default c =
-    record { result_after = not_parsed _ _ _ c.ill_formed.ensures.ok_value ∙ subst (λ (r : PlmnAt). HomeIs c.args.text.now r) c.in_default.is c.home_at.ensures; within = c.ill_formed.ensures.anywhere _ _ _ }
+pub returns-in_err-plmns-clause-result_after : goal.returns-in_err-plmns-clause-result_after
+returns-in_err-plmns-clause-result_after c =
+    let node = c.optional_node-node in
+    rw c.from_residual-in_err-plmns.ensures
+    (bad_plmns c.args.text.now c.in_ok-home.home.value node.result.value node.result.next c.collect.new.list c.args.barred.now c.in_err-plmns.ensures
+    ∙ home_settled c.args.text.now c.in_ok-home.home c.in_ok-home.ensures node.result node.ensures)
 
-pub settled-requires : goal.settled-requires
-settled-requires c =
-    ((subst (λ (r : PlmnAt). HomeIs c.args.text.now r) c.in-Is.is c.home_at.ensures).2, c.requires)
+pub returns-in_err-bars-clause-result_after : goal.returns-in_err-bars-clause-result_after
+returns-in_err-bars-clause-result_after c =
+    let node = c.optional_node-node in
+    rw c.from_residual-in_err-bars.ensures
+    (bad_bars c.args.text.now c.in_ok-home.home.value node.result.value node.result.next c.collect.new.list c.collect-2.new.list c.in_ok-plmns.plmns c.in_ok-plmns.ensures c.in_err-bars.ensures
+    ∙ home_settled c.args.text.now c.in_ok-home.home c.in_ok-home.ensures node.result node.ensures)
 
-pub returns : goal.returns
-unfolding as_home with_home
-returns c =
-    let home = subst (λ (r : PlmnAt). HomeIs c.args.text.now r) c.in-Is.is c.home_at.ensures in
-    record { result_after = c.settled.ensures.result_after ∙ with_home_lem c.args.text.now _ _ home.0 home.1; within = c.settled.ensures.within }
+pub returns-then-bars-text-clause-result_after : goal.returns-then-bars-text-clause-result_after
+returns-then-bars-text-clause-result_after c =
+    let node = c.optional_node-node in
+    more_behind c.args.text.now c.in_ok-home.home.value node.result.value node.result.next c.collect.new.list c.collect-2.new.list c.in_ok-plmns.plmns c.in_ok-plmns.ensures c.in_ok-bars.bars c.in_ok-bars.ensures c.if-bars-text.true
+    ∙ home_settled c.args.text.now c.in_ok-home.home c.in_ok-home.ensures node.result node.ensures
+
+pub returns-clause-result_after : goal.returns-clause-result_after
+returns-clause-result_after c =
+    let node = c.optional_node-node in
+    finished c.args.text.now c.in_ok-home.home.value node.result.value node.result.next c.collect.new.list c.collect-2.new.list c.in_ok-plmns.plmns c.in_ok-plmns.ensures c.in_ok-bars.bars c.in_ok-bars.ensures c.if-bars-text.false
+    ∙ home_settled c.args.text.now c.in_ok-home.home c.in_ok-home.ensures node.result node.ensures

@@ -1,0 +1,2 @@
+-- At most so many values, in an array.
+pub mod Bounded

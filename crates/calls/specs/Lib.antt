@@ -1,0 +1,2 @@
+-- Which events the calls with a step are for, and what they ask of the step.
+pub mod Steps

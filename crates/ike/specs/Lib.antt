@@ -1,2 +1,0 @@
--- The events that change the phase alone.
-pub mod Events

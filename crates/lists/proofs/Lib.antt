@@ -1,2 +1,0 @@
--- The laws of the definitions of specs/.
-pub mod Entries

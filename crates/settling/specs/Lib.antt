@@ -1,2 +1,0 @@
--- What a timed call leaves.
-pub mod Settling

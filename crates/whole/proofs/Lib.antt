@@ -1,0 +1,2 @@
+-- What a step with a name buffer answers.
+pub mod Naming

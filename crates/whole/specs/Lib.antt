@@ -1,0 +1,2 @@
+-- What a choice leaves of a whole line.
+pub mod Finished
