@@ -23,7 +23,7 @@ impl Address {
     }
 }
 
-// When a hold ends.
+// When a hold ends; `Never` has a name of its own, since `None` would say that no end is known.
 #[derive(Clone, Copy, PartialEq, Eq)]
 pub enum End {
     At(u64),

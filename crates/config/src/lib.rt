@@ -34,6 +34,7 @@ pub enum Node {
 pub struct Config {
     pub home: Plmn,
     pub node: Option<Node>,
+    // A slice in place of a count would keep the lists lent that the reader fills.
     pub plmn_count: usize,
     pub bar_count: usize,
 }

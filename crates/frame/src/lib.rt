@@ -35,7 +35,7 @@ pub fn checked(table: &[u8], tenant: u64, line: u64, short: bool) -> Result<(), 
     Ok(())
 }
 
-// The entry tests of a timed call, and the record that it is about.
+// The entry tests of a timed call, and the record that it is about; C hands in tenant, line and time one by one.
 pub fn enter(
     table: &[u8],
     tenant: u64,

@@ -14,7 +14,7 @@ use address::Address;
 use addresses::ADDRESS;
 use lists::{ENTRIES, address_at};
 
-// What a list of addresses gives.
+// What a list of addresses gives; both cases carry a count and none permitted is no error, so that this is no `Result`.
 #[derive(Clone, Copy)]
 pub enum Found {
     // An address, and how many were passed over before it.

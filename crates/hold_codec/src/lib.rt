@@ -26,7 +26,7 @@ const NOTHING: Hold = Hold {
     end: End::Never,
 };
 
-// The end of a hold as a number.
+// The end of a hold as a number; octets are laid down here and not with the type, so that this is no `From`.
 fn end_number(end: End) -> u64
     ensures { result ≡ end_number end }
 {
@@ -61,10 +61,8 @@ pub fn put_hold(b: &mut [u8], at: usize, hold: Hold)
     requires { at + hold_length ≤ length b.old }
     ensures { Wrote b.old at (hold_octets hold) b.new }
 {
-    let address = hold.address;
-    let end = hold.end;
-    put_address(b, at, address);
-    put(b, at + ADDRESS, 5, end_number(end));
+    put_address(b, at, hold.address);
+    put(b, at + ADDRESS, 5, end_number(hold.end));
 }
 
 // The first n holds of those that begin at a place.

@@ -38,6 +38,7 @@ pub enum Phase {
 // What a phase says beside its place facts and its address: its number and, of an EAP session, how far it is and the identifier.
 #[derive(Clone, Copy)]
 pub struct Standing {
+    // The numbers are octets of a record, which are laid down.
     pub stage: u64,
     pub turn: u64,
     pub identifier: u64,

@@ -17,5 +17,6 @@ pub enum Place {
 pub struct Facts {
     pub place: Place,
     pub registered: Option<Plmn>,
+    // The number that C hands in, which `facts_of` keeps whatever it is.
     pub version: u64,
 }

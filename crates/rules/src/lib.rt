@@ -10,7 +10,7 @@ use address::Address;
 use record::LINES;
 use selection::Stop;
 
-// The numbers of a start: the place and the visited MCC, whether registered and to which PLMN, the local IP version.
+// The numbers of a start as C hands them in: the place and the visited MCC, whether registered and to which PLMN, the local IP version.
 #[derive(Clone, Copy)]
 pub struct StartNumbers {
     pub place: u64,

@@ -41,7 +41,7 @@ fn registered_of(registered: u64, mcc: u64, mnc: u64) -> Option<Plmn>
     (registered == 1).then_some(Plmn { mcc, mnc })
 }
 
-// The place facts that the numbers of a start say.
+// The place facts that the numbers of a start say; both types are of lower crates, so that this is no `From`.
 #[tactic(auto, unfolding(rules::specs::Call::facts_of))]
 pub(crate) fn facts_of(g: StartNumbers) -> Facts
     ensures { result ≡ facts_of g }

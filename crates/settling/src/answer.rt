@@ -16,7 +16,7 @@ fn chose(a: Address, passed: u64) -> [u64; 12]
     }
 }
 
-// The twelve numbers of an action.
+// The twelve numbers of an action; its type is of a lower crate, so that this is no `From`.
 pub fn numbers(action: Action) -> [u64; 12]
     ensures { result ≡ numbers_of action }
 {

@@ -35,7 +35,7 @@ const NO_KEY: u64 = BUSY_HOLDS as u64;
 // A flag for each number from that of a free record to the last pair's.
 const FLAGS: usize = PAIRS as usize + 1;
 
-// Whether a line whose phase has a number may have m holds, at most 8, and n children, at most 8.
+// Whether a line whose phase has a number may have m holds, at most 8, and n children, at most 8; the number is the octet where it lies.
 #[tactic(auto, unfolding(record::specs::Branch::counts_fit))]
 fn counts_fit(stage: u64, m: usize, n: usize) -> bool
     ensures { result ≡ counts_fit stage m n }

@@ -28,7 +28,7 @@ fn turned(turn: Turn) -> Standing
     }
 }
 
-// What a phase says beside its place facts and its address.
+// What a phase says beside its place facts and its address; both types are of a lower crate, so that this is no `From`.
 #[tactic(auto, unfolding(phase::specs::Standing::standing, phase::specs::Standing::turned))]
 pub fn standing_of(phase: Phase) -> Standing
     ensures { result ≡ standing phase }

@@ -7,7 +7,7 @@ ghost use Rattle.timer.specs.Timer.{unit_seconds, timer_of};
 // The seconds of units 0 to 6, indexed by the octet's top three bits.
 const UNITS: [u64; 7] = [600, 3600, 36000, 2, 30, 60, 1152000];
 
-// What a timer octet says.
+// What a timer octet says; each of the three has a number of its own for C, so that no hold is a case too.
 #[derive(Clone, Copy)]
 pub enum Timer {
     // No hold is set.
