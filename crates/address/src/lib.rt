@@ -39,6 +39,7 @@ pub struct Hold {
 
 impl Hold {
     // Whether a hold is for an address.
+    #[tactic(auto, using(crate::proofs::Same::eq_same))]
     fn is_for(self, a: Address) -> bool
         ensures { result ≡ same_address a self.address }
     {

@@ -1,7 +1,7 @@
 // At most so many values, in an array.
 #![tactic(auto)]
 
-ghost use Rattle.std.specs.Prelude.{ℕ, Bool, [], ◌∷◌, ◌++◌, ◌+◌, ◌≡◌, ◌≤◌, ◌<◌, length};
+ghost use Rattle.std.specs.Prelude.{ℕ, Bool, ⊤, [], ◌∷◌, ◌++◌, ◌+◌, ◌≡◌, ◌≤◌, ◌<◌, length};
 ghost use Rattle.octets.specs.Row.{only, row};
 
 use std::alloc::AllocError;
@@ -14,6 +14,10 @@ pub struct Bounded<T, const N: usize> {
 }
 
 impl<T: Copy, const N: usize> Clone for Bounded<T, N> {
+    ghost is_clone = { λ x y. y ≡ x };
+
+    ghost is_infallible = { λ _. ⊤ };
+
     fn clone(&self) -> Result<Self, AllocError> {
         Ok(*self)
     }

@@ -16,12 +16,14 @@ pub fn zero(s: &mut [u8])
 }
 
 // Copies all of src into dst from `at`.
-#[tactic(auto, using(octets::proofs::Patches::part_stored))]
 pub fn copy(src: &[u8], dst: &mut [u8], at: usize)
     requires { at + length src.now ≤ length dst.old }
     ensures { Wrote dst.old at src.now dst.new }
 {
-    dst[at..at + src.len()].copy_from_slice(src);
+    // `copy_from_slice` would need `memmove` of the C library.
+    for i in 0..src.len() {
+        dst[at + i] = src[i];
+    }
 }
 
 // Eight octets as one number, the first of them lowest, and the promise that they are octets; a sum without brackets is compiled to one load.

@@ -4,11 +4,14 @@ ghost use Rattle.rules.specs.Answer.{part_named, PartWithin};
 ghost use Rattle.rules.specs.Call.{Event, congestion, eap, timed};
 ghost use Rattle.rules.specs.Call as Call;
 ghost use Rattle.rules.specs.Run.{run};
+ghost use Rattle.ike.specs.Events.{event_of};
 ghost use Rattle.frame.specs.Returned.{numbers_in, told};
 ghost use Rattle.calls.specs.Steps.{ChangesPhase, IsStep};
 
 use buffer::slice::zero;
 use frame::enter;
+use ike::event::IkeEvent;
+use ike::{begin, error, final_answer, give_up, init_answer};
 use record::Record;
 use records::{keep_hold_at, keep_standing_at, unlisted_at};
 use refusal::Refusal;
@@ -19,7 +22,7 @@ use standing::standing_of;
 use step::Stepped;
 
 // A call whose event comes with numbers alone and changes only the phase of the line, by the step of the event.
-pub fn on_line<S: FnOnce(Record, u64) -> Stepped>(
+pub fn on_line_by<S: FnOnce(Record, u64) -> Stepped>(
     table: &mut [u8],
     tenant: u64,
     line: u64,
@@ -34,6 +37,32 @@ pub fn on_line<S: FnOnce(Record, u64) -> Stepped>(
     let done = step(found, time)?;
     keep_standing_at(table, entered.at, time, standing_of(done.line.phase));
     Ok(done.action)
+}
+
+// A call whose event comes with numbers alone and changes only the phase of the line; inlined, since each caller knows its event.
+#[inline(always)]
+pub fn on_line(
+    table: &mut [u8],
+    tenant: u64,
+    line: u64,
+    time: u64,
+    event: IkeEvent,
+) -> Result<Action, Refusal>
+    ensures { told result [] [] table.new ≡ run (timed tenant line time (event_of event)) table.old }
+{
+    match event {
+        IkeEvent::Begin => on_line_by(table, tenant, line, time, begin),
+        IkeEvent::InitAnswer => on_line_by(table, tenant, line, time, init_answer),
+        IkeEvent::FinalAnswer(good) => {
+            let step = |found, time| final_answer(found, time, good);
+            on_line_by(table, tenant, line, time, step)
+        }
+        IkeEvent::Error(number) => {
+            let step = |found, time| error(found, time, number);
+            on_line_by(table, tenant, line, time, step)
+        }
+        IkeEvent::GiveUp => on_line_by(table, tenant, line, time, give_up),
+    }
 }
 
 // Takes a congestion notify with its back-off timer.

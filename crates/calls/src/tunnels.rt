@@ -2,6 +2,7 @@
 ghost use Rattle.std.specs.Prelude.{[], ◌≡◌};
 ghost use Rattle.rules.specs.Call.{Event, child_made, timed};
 ghost use Rattle.rules.specs.Run.{run};
+ghost use Rattle.tunnel.specs.Events.{tunnel_event_of};
 ghost use Rattle.frame.specs.Returned.{told};
 ghost use Rattle.calls.specs.Steps.{ChangesChildren, IsStep};
 
@@ -13,10 +14,10 @@ use refusal::Refusal;
 use rules::Action;
 use standing::standing_of;
 use step::Stepped;
-use tunnel::made;
+use tunnel::{TunnelEvent, child_deleted, ike_delete, made};
 
 // A call whose event takes children of a live line away, by the step of the event.
-pub fn on_tunnel<S: FnOnce(Record, u64) -> Stepped>(
+pub fn on_tunnel_by<S: FnOnce(Record, u64) -> Stepped>(
     table: &mut [u8],
     tenant: u64,
     line: u64,
@@ -29,14 +30,30 @@ pub fn on_tunnel<S: FnOnce(Record, u64) -> Stepped>(
     let entered = enter(table, tenant, line, time, false)?;
     let done = step(unheld_at(table, entered.at), time)?;
     let standing = standing_of(done.line.phase);
-    keep_tunnels_at(
-        table,
-        entered.at,
-        time,
-        standing,
-        done.line.children.as_slice(),
-    );
+    // Children in a variable of their own are copied alone.
+    let children = done.line.children;
+    keep_tunnels_at(table, entered.at, time, standing, children.as_slice());
     Ok(done.action)
+}
+
+// A call whose event takes children of a live line away; inlined, since each caller knows its event.
+#[inline(always)]
+pub fn on_tunnel(
+    table: &mut [u8],
+    tenant: u64,
+    line: u64,
+    time: u64,
+    event: TunnelEvent,
+) -> Result<Action, Refusal>
+    ensures { told result [] [] table.new ≡ run (timed tenant line time (tunnel_event_of event)) table.old }
+{
+    match event {
+        TunnelEvent::ChildDeleted(spi) => {
+            let step = |found, time| child_deleted(found, time, spi);
+            on_tunnel_by(table, tenant, line, time, step)
+        }
+        TunnelEvent::IkeDelete => on_tunnel_by(table, tenant, line, time, ike_delete),
+    }
 }
 
 // Takes a child made on a live line.

@@ -7,15 +7,16 @@ use native.Mathlib.Omega.{arith}
 use Rattle.std.specs.Prelude.{None, Some}
 use lib.Dec.{leb, eqb}
 use lib.ListN.{length}
-use borrow.Author.Tests.{leb-true, eqb-true}
+use borrow.Author.Tests.{leb-true, eqb-true, ne_eqb}
 use Rattle.octets.specs.Digits.{field}
 use Rattle.octets.specs.Part.{part}
 use Rattle.octets.proofs.Search.{and_left, and_right}
 use Rattle.parameters.specs.Parameters.{well_formed}
-use Rattle.eap.specs.Packet.{code, identifier, message, fits, is_expanded, is_message, is_nas, is_parameters, is_success, is_nas_request, is_nas_response, nas_place, read_packet}
+use Rattle.eap.specs.Packet.{code, identifier, length_field, message, fits, is_expanded, is_message, is_nas, is_parameters, is_success, is_nas_request, is_nas_response, nas_place, read_packet}
+use Rattle.eap.specs.Branch.{response_of}
 use Rattle.eap.specs.declared.Packet.TheVariants.{Start, NasRequest, Success, NasResponse, Stop}
 use Rattle.eap.proofs.Blocks.{fits_within}
-use Rattle.eap.proofs.Headers.{Expanded, expanded_facts}
+use Rattle.eap.proofs.Headers.{Expanded, expanded_facts, nas_response}
 
 module _ (l : List ℕ) where
   -- a packet read as a NAS request is one, and its fields are those of the packet
@@ -97,3 +98,43 @@ header_facts l c m e =
       code_is = eqb-true _ _ (and_right (is_expanded l) (eqb (code l) c) coded);
       message_is = eqb-true _ _ (and_right (is_expanded l && eqb (code l) c) (eqb (message l) m) e);
     }
+
+-- what a packet is read as, by the tests that it passes
+module _ (l : List ℕ) where
+  -- an EAP-5G packet has more octets than Success
+  not_success : (c m : ℕ) → is_message c m l ≡ true → is_success l ≡ false
+  unfolding is_success
+  not_success c m e = simp (ne_eqb (length l) 4 (λ q. omega (arith, q, (header_facts l c m e).expanded.enough)))
+
+  pub start_is : is_message 1 1 l ≡ true → Some (Start (identifier l)) ≡ read_packet l
+  unfolding read_packet
+  start_is e = simp (not_success 1 1 e, e)
+
+  pub success_is : is_success l ≡ true → Some (Success (identifier l)) ≡ read_packet l
+  unfolding read_packet
+  success_is e = rw e
+
+  -- Success has its identifier
+  pub success_long : is_success l ≡ true → 4 ≤ length l
+  unfolding is_success
+  success_long e =
+      let four = eqb-true (length l) 4 (and_left (eqb (length l) 4) (eqb (code l) 3) (and_left (eqb (length l) 4 && eqb (code l) 3) (eqb (length_field l) 4) e)) in
+      omega arith
+
+  -- a NAS request has its NAS length
+  pub request_long : is_nas_request l ≡ true → 16 ≤ length l
+  unfolding is_nas_request
+  request_long e =
+      let nas = nas_facts l 14 (and_right (is_message 1 2 l) (is_nas l 14) e) in
+      omega arith
+
+  pub request_is : is_message 1 1 l ≡ false → is_nas_request l ≡ true → Some (NasRequest (identifier l) 16 (field l 14 2)) ≡ read_packet l
+  unfolding read_packet is_nas_request
+  request_is no_start e = simp (not_success 1 2 (and_left (is_message 1 2 l) (is_nas l 14) e), no_start, e)
+
+  pub response_is : is_message 2 2 l ≡ true → response_of l ≡ read_packet l
+  unfolding is_message
+  response_is e =
+      let h = header_facts l 2 2 e in
+      nas_response l (λ q. omega (arith, q, h.expanded.enough)) (and_left (is_expanded l) (eqb (code l) 2) (and_left (is_expanded l && eqb (code l) 2) (eqb (message l) 2) e))
+      h.code_is h.message_is

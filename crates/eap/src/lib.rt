@@ -3,7 +3,7 @@
 
 ghost use Rattle.std.specs.Prelude.{◌≡◌, ◌+◌, ◌≤◌, if◌then◌else◌, length, IfSome, IsTrue};
 ghost use Rattle.octets.specs.Digits.{field};
-ghost use Rattle.eap.specs.Packet.{fits, is_expanded, is_nas, is_parameters, is_success, read_packet};
+ghost use Rattle.eap.specs.Packet.{fits, is_expanded, is_message, is_nas, is_nas_request, is_parameters, is_success, read_packet};
 ghost use Rattle.eap.specs.Branch.{response_of};
 
 use buffer::number::get;
@@ -84,9 +84,25 @@ fn is_expanded(packet: &[u8]) -> bool
     14 <= n && get(packet, 2, 2) == n as u64 && word(packet, 4) == EXPANDED
 }
 
+// Whether a packet is an EAP-5G packet of a code with a message.
+#[tactic(auto, unfolding(crate::specs::Packet::is_message, crate::specs::Packet::code, crate::specs::Packet::message))]
+pub fn is_message(packet: &[u8], code: u64, message: u64) -> bool
+    ensures { result ≡ is_message code message packet.now }
+{
+    is_expanded(packet) && get(packet, 0, 1) == code && get(packet, 12, 1) == message
+}
+
+// Whether a packet is a request with a NAS message, and whole NAS follows.
+#[tactic(auto, unfolding(crate::specs::Packet::is_nas_request))]
+pub fn is_nas_request(packet: &[u8]) -> bool
+    ensures { result ≡ is_nas_request packet.now }
+{
+    is_message(packet, 1, 2) && nas_at(packet, 14).is_some()
+}
+
 // Whether a packet is Success.
 #[tactic(auto, unfolding(crate::specs::Packet::is_success, crate::specs::Packet::code, crate::specs::Packet::length_field))]
-fn is_success(packet: &[u8]) -> bool
+pub fn is_success(packet: &[u8]) -> bool
     ensures { result ≡ is_success packet.now }
 {
     packet.len() == 4 && get(packet, 0, 1) == 3 && get(packet, 2, 2) == 4
@@ -94,7 +110,7 @@ fn is_success(packet: &[u8]) -> bool
 
 // A response with a NAS message is that where what follows is whole.
 #[tactic(auto, unfolding(crate::specs::Branch::response_of, crate::specs::Packet::nas_place, crate::specs::Packet::identifier))]
-fn read_response(packet: &[u8]) -> Option<Packet>
+pub fn read_response(packet: &[u8]) -> Option<Packet>
     ensures { result ≡ response_of packet.now }
 {
     let parameters_length = parameters_at(packet, 14)?;

@@ -2,6 +2,7 @@
 #![tactic(auto)]
 
 pub mod congestion;
+pub mod event;
 
 ghost use Rattle.std.specs.Prelude.{[], ◌≡◌};
 ghost use Rattle.record.specs.Line.{line_of};

@@ -5,8 +5,8 @@ ghost use Rattle.std.specs.Prelude.{[], ◌≡◌, length};
 ghost use Rattle.refusal.specs.Numbers.{number_in};
 ghost use Rattle.packets.specs.Packets.{fields_in, read_parameter, read_request, read_response, read_timer, told, write_response};
 
-use buffer::number::MOST_OCTET;
-use eap::Packet;
+use buffer::number::{MOST_OCTET, get};
+use eap::{Packet, is_message, is_nas_request, is_success};
 use parameter_reader::reader::read_from;
 use parameters::MOST_PARAMETERS;
 use refusal::Refusal;
@@ -30,30 +30,29 @@ pub fn returned(outcome: Result<[u64; 6], Refusal>, fields: &mut [u64; 6]) -> u6
     }
 }
 
-// Reads Start, a NAS request or Success.
-#[tactic(auto, unfolding(crate::specs::Packets::read_request, crate::specs::Packets::fields_only, crate::specs::Packets::refused_by, crate::specs::Packets::request_answer, eap::specs::Packet::is_request, eap::specs::Packet::packet_numbers, octets::specs::Part::padded, octets::specs::Part::zeros))]
+// Reads Start, a NAS request or Success; a response is refused by its header.
 pub fn read_request(packet: &[u8]) -> Result<[u64; 6], Refusal>
     ensures { told result [] ≡ read_request packet.now }
 {
-    match eap::read(packet) {
-        Some(Packet::Start { identifier }) => Ok([1, identifier, 0, 0, 0, 0]),
-        Some(
-            Packet::NasRequest {
-                identifier,
-                nas,
-                nas_length,
-            },
-        ) => Ok([2, identifier, 0, 0, nas as u64, nas_length as u64]),
-        Some(Packet::Success { identifier }) => Ok([3, identifier, 0, 0, 0, 0]),
-        _ => Err(Refusal::Malformed),
+    if is_message(packet, 1, 1) {
+        return Ok([1, get(packet, 1, 1), 0, 0, 0, 0]);
     }
+    if is_nas_request(packet) {
+        return Ok([2, get(packet, 1, 1), 0, 0, 16, get(packet, 14, 2)]);
+    }
+    if is_success(packet) {
+        return Ok([3, get(packet, 1, 1), 0, 0, 0, 0]);
+    }
+    Err(Refusal::Malformed)
 }
 
 // Reads a NAS response.
-#[tactic(auto, unfolding(crate::specs::Packets::read_response, crate::specs::Packets::fields_only, crate::specs::Packets::refused_by, crate::specs::Packets::response_answer, eap::specs::Packet::packet_numbers, octets::specs::Part::zeros))]
 pub fn read_response(packet: &[u8]) -> Result<[u64; 6], Refusal>
     ensures { told result [] ≡ read_response packet.now }
 {
+    if !is_message(packet, 2, 2) {
+        return Err(Refusal::Malformed);
+    }
     let Some(
         Packet::NasResponse {
             identifier,
@@ -62,7 +61,7 @@ pub fn read_response(packet: &[u8]) -> Result<[u64; 6], Refusal>
             nas,
             nas_length,
         },
-    ) = eap::read(packet)
+    ) = eap::read_response(packet)
     else {
         return Err(Refusal::Malformed);
     };

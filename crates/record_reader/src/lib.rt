@@ -51,7 +51,8 @@ pub fn read_unlisted(b: &[u8]) -> Record
     unheld(read_bare(b, PHASE_AT), none)
 }
 
-// The line in a record's octets, of which only the bare phase and the children are known.
+// The line in a record's octets, of which only the bare phase and the children are known; inlined, so that the holds are known to be none.
+#[inline(always)]
 pub fn read_unheld(b: &[u8]) -> Record
     requires { (record_length ≤ length b.now) × (field b.now child_count_place 1 ≤ most_children) }
     ensures { line_of result ≡ unheld (bare (line_from b.now).phase) (line_from b.now).children }

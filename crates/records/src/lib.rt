@@ -75,7 +75,8 @@ pub fn phase_at(table: &[u8], i: usize) -> Phase
     read_phase(part(table, RECORD * i, RECORD), PHASE_AT)
 }
 
-// The line of a used record, of which only the bare phase and the children are known.
+// The line of a used record, of which only the bare phase and the children are known; inlined, so that the holds are known to be none.
+#[inline(always)]
 pub fn unheld_at(table: &[u8], i: usize) -> Record
     requires { UsedAt table.now i }
     ensures { line_of result ≡ unheld (bare (line_from (slot table.now i)).phase) (line_from (slot table.now i)).children }

@@ -7,7 +7,7 @@ ghost use Rattle.rules.specs.Run.{run};
 ghost use Rattle.frame.specs.Returned.{returned};
 
 use calls::signalling::{congested, on_line};
-use ike::{begin, error, final_answer, give_up, init_answer};
+use ike::event::IkeEvent;
 use settling::answered;
 
 // Begins IKE with the chosen address.
@@ -21,7 +21,7 @@ pub extern "C" fn scal_begin(
 ) -> u64
     ensures { returned result answer.new [] [] table.new ≡ run (timed tenant line time begin) table.old }
 {
-    answered(on_line(table, tenant, line, time, begin), answer)
+    answered(on_line(table, tenant, line, time, IkeEvent::Begin), answer)
 }
 
 // Takes the answer to IKE_SA_INIT.
@@ -35,7 +35,10 @@ pub extern "C" fn scal_init(
 ) -> u64
     ensures { returned result answer.new [] [] table.new ≡ run (timed tenant line time init) table.old }
 {
-    answered(on_line(table, tenant, line, time, init_answer), answer)
+    answered(
+        on_line(table, tenant, line, time, IkeEvent::InitAnswer),
+        answer,
+    )
 }
 
 // Takes an EAP packet: Start, a NAS request or Success.
@@ -89,8 +92,10 @@ pub extern "C" fn scal_final(
 ) -> u64
     ensures { returned result answer.new [] [] table.new ≡ run (timed tenant line time (final good)) table.old }
 {
-    let step = |found, time| final_answer(found, time, good);
-    answered(on_line(table, tenant, line, time, step), answer)
+    answered(
+        on_line(table, tenant, line, time, IkeEvent::FinalAnswer(good)),
+        answer,
+    )
 }
 
 // Takes an error notify.
@@ -105,8 +110,10 @@ pub extern "C" fn scal_error(
 ) -> u64
     ensures { returned result answer.new [] [] table.new ≡ run (timed tenant line time (error number)) table.old }
 {
-    let step = |found, time| error(found, time, number);
-    answered(on_line(table, tenant, line, time, step), answer)
+    answered(
+        on_line(table, tenant, line, time, IkeEvent::Error(number)),
+        answer,
+    )
 }
 
 // Takes a congestion notify with its back-off timer.
@@ -139,5 +146,5 @@ pub extern "C" fn scal_give_up(
 ) -> u64
     ensures { returned result answer.new [] [] table.new ≡ run (timed tenant line time give_up) table.old }
 {
-    answered(on_line(table, tenant, line, time, give_up), answer)
+    answered(on_line(table, tenant, line, time, IkeEvent::GiveUp), answer)
 }

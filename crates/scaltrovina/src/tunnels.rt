@@ -6,7 +6,7 @@ ghost use Rattle.frame.specs.Returned.{returned};
 
 use calls::tunnels::{child_made, on_tunnel};
 use settling::answered;
-use tunnel::{child_deleted, ike_delete};
+use tunnel::TunnelEvent;
 
 // Adds a child association.
 #[unsafe(no_mangle)]
@@ -36,8 +36,10 @@ pub extern "C" fn scal_child_deleted(
 ) -> u64
     ensures { returned result answer.new [] [] table.new ≡ run (timed tenant line time (child_deleted spi)) table.old }
 {
-    let step = |found, time| child_deleted(found, time, spi);
-    answered(on_tunnel(table, tenant, line, time, step), answer)
+    answered(
+        on_tunnel(table, tenant, line, time, TunnelEvent::ChildDeleted(spi)),
+        answer,
+    )
 }
 
 // Takes an IKE delete: the line is idle, and its child associations are gone.
@@ -51,5 +53,8 @@ pub extern "C" fn scal_ike_delete(
 ) -> u64
     ensures { returned result answer.new [] [] table.new ≡ run (timed tenant line time ike_delete) table.old }
 {
-    answered(on_tunnel(table, tenant, line, time, ike_delete), answer)
+    answered(
+        on_tunnel(table, tenant, line, time, TunnelEvent::IkeDelete),
+        answer,
+    )
 }

@@ -1,7 +1,8 @@
 // The calls from start to the chosen address.
 #![tactic(auto)]
 
-ghost use Rattle.std.specs.Prelude.{[], ◌≡◌, ◌≤◌, length};
+ghost use Rattle.std.specs.Prelude.{[], ◌≡◌, ◌≤◌, length, MatchResult};
+ghost use Rattle.octets.specs.Part.{zeros};
 ghost use Rattle.attempt.specs.Attempt.{HoldTold};
 ghost use Rattle.frame.specs.Entering.{Stands};
 ghost use Rattle.frame.specs.Returned.{numbers_in, told};
@@ -25,6 +26,17 @@ use refusal::Refusal;
 use rules::{Action, StartNumbers};
 use selecting::{Selected, country_choice, start_choice};
 use selection::Choice;
+
+// Hands on what a test of a call came to, and clears the name buffer where it is a refusal; what an accepted call decides clears it itself.
+fn cleared<T>(outcome: Result<T, Refusal>, name: &mut [u8]) -> Result<T, Refusal>
+    ensures same { result ≡ outcome }
+    ensures name_after { MatchResult result (λ _. name.new ≡ name.old) (λ _. name.new ≡ zeros (length name.old)) }
+{
+    if outcome.is_err() {
+        zero(name);
+    }
+    outcome
+}
 
 // Whether a choice is an address that the line of a used record holds at a time.
 fn is_choice_held(table: &[u8], i: usize, time: u64, choice: Choice) -> bool
@@ -69,11 +81,11 @@ pub fn start(
     ensures table_after { told result (part_named (numbers_in result) text.now name.new []) name.new table.new ≡ run (timed tenant line time (start given text.now (length name.old))) table.old }
     ensures part_within { PartWithin (numbers_in result) text.now name.new [] }
 {
-    zero(name);
-    let entered = enter(table, tenant, line, time, name.len() < NAME_ROOM)?;
+    let short = name.len() < NAME_ROOM;
+    let entered = cleared(enter(table, tenant, line, time, short), name)?;
     let phase = phase_at(table, entered.at);
     let in_force = in_force_at(table, entered.at, time);
-    let selected = start_choice(phase, time, given, text, in_force)?;
+    let selected = cleared(start_choice(phase, time, given, text, in_force), name)?;
     Ok(finish(table, entered, time, selected, text, name))
 }
 
@@ -91,10 +103,10 @@ pub fn country(
     ensures table_after { told result (part_named (numbers_in result) text.now name.new []) name.new table.new ≡ run (timed tenant line time (country replied networks.now text.now (length name.old))) table.old }
     ensures part_within { PartWithin (numbers_in result) text.now name.new [] }
 {
-    zero(name);
-    let entered = enter(table, tenant, line, time, name.len() < NAME_ROOM)?;
+    let short = name.len() < NAME_ROOM;
+    let entered = cleared(enter(table, tenant, line, time, short), name)?;
     let awaited = awaited_at(table, entered.at);
-    let selected = country_choice(awaited, time, replied, networks, text)?;
+    let selected = cleared(country_choice(awaited, time, replied, networks, text), name)?;
     Ok(finish(table, entered, time, selected, text, name))
 }
 

@@ -1,6 +1,8 @@
 // What every step on a line shares: what an accepted step leaves, and the line as a call finds it. The refusals from 1 to 7 are tested before a step.
 #![tactic(auto)]
 
+ghost use Rattle.std.specs.Prelude.{◌≡◌};
+ghost use Rattle.record.specs.Changes.{current};
 ghost use Rattle.record.specs.Line.{line_of};
 ghost use Rattle.step.specs.Laws.{Laws};
 ghost use Rattle.step.specs.Step.{Finds};
@@ -24,6 +26,17 @@ pub struct Done {
 pub type Stepped = Result<Done, Refusal>;
 
 // The line as a call at a time finds it: the time is stored, and the holds that have ended are dropped.
+#[tactic(auto, unfolding(record::specs::Line::line_of, record::specs::Changes::current, record::specs::Changes::with_holds))]
+pub fn current(line: Record, time: u64) -> Record
+    ensures { line_of result ≡ current time (line_of line) }
+{
+    let mut found = line.with_holds(in_force(line.holds.as_slice(), time));
+    found.time = time;
+    found
+}
+
+// The same where the time is one that a call may carry; inlined and not by `current`, so that no record is copied for it.
+#[inline(always)]
 #[tactic(auto, unfolding(record::specs::Line::line_of, record::specs::Changes::current))]
 pub fn found_at(line: Record, time: u64) -> Result<Record, Refusal>
     ensures { Finds result time (line_of line) }

@@ -1,2 +1,3 @@
--- A child made.
+-- A child made, and the events that take children away.
+pub mod Events
 pub mod Made

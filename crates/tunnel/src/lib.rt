@@ -78,10 +78,12 @@ pub fn child_deleted(line: Record, time: u64, spi: u64) -> Stepped
     let Phase::Live(_) = found.phase else {
         return Err(Refusal::Phase);
     };
-    if !has_spi(found.children.as_slice(), spi) {
+    // Children in a variable of their own are copied alone.
+    let children = found.children;
+    if !has_spi(children.as_slice(), spi) {
         return Err(Refusal::Phase);
     }
-    let others = without(found.children.as_slice(), spi);
+    let others = without(children.as_slice(), spi);
     Ok(Done {
         line: found.with_children(others),
         action: Action::Nothing,
@@ -102,4 +104,12 @@ pub fn ike_delete(line: Record, time: u64) -> Stepped
         line: found.in_phase(Phase::Idle).with_children(none),
         action: Action::Released(false),
     })
+}
+
+// An event that takes children of a live line away.
+#[derive(Clone, Copy)]
+pub enum TunnelEvent {
+    // SPI.
+    ChildDeleted(u64),
+    IkeDelete,
 }

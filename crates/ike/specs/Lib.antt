@@ -1,0 +1,2 @@
+-- The events that change the phase alone.
+pub mod Events

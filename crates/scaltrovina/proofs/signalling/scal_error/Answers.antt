@@ -1,9 +1,0 @@
--- `scal_error` meets its contract: the step is that of the call's event.
-use borrow.Author.Rules.{rules}
-use Rattle.scaltrovina.proofs.Events.{errs}
-use Rattle.scaltrovina.proofs.signalling.scal_error.Goals as goal
-
-pub returns : goal.returns
-returns c =
-    let told = c.answered.ensures in
-    rw (told.value, told.answer_after) (c.on_line.ensures _ (errs c.args.number) (λ line r step. search rules))

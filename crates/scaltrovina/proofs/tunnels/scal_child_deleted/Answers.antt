@@ -1,9 +1,0 @@
--- `scal_child_deleted` meets its contract: the step is that of the call's event.
-use borrow.Author.Rules.{rules}
-use Rattle.scaltrovina.proofs.Events.{deletes}
-use Rattle.scaltrovina.proofs.tunnels.scal_child_deleted.Goals as goal
-
-pub returns : goal.returns
-returns c =
-    let told = c.answered.ensures in
-    rw (told.value, told.answer_after) (c.on_tunnel.ensures _ (deletes c.args.spi) (λ line r step. search rules))
