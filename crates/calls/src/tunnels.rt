@@ -30,7 +30,7 @@ pub fn on_tunnel_by<S: FnOnce(Record, u64) -> Stepped>(
     let entered = enter(table, tenant, line, time, false)?;
     let done = step(unheld_at(table, entered.at), time)?;
     let standing = standing_of(done.line.phase);
-    // Children in a variable of their own are copied alone.
+    // The children are copied first, so that the rest of the record is not.
     let children = done.line.children;
     keep_tunnels_at(table, entered.at, time, standing, children.as_slice());
     Ok(done.action)

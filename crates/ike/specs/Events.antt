@@ -1,4 +1,4 @@
--- The events that change the phase alone.
+-- The events that come with numbers alone and change only the phase.
 use Rattle.rules.specs.Call.{Event, begin, error, final, give_up, init}
 use Rattle.ike.specs.declared.event.IkeEvent.{IkeEvent}
 

@@ -1,2 +1,2 @@
--- The events that change the phase alone.
+-- The events that come with numbers alone and change only the phase.
 pub mod Events

@@ -1,6 +1,6 @@
-// The events of IKE that change the phase alone.
+// The events of IKE that come with numbers alone and change only the phase.
 
-// An event that changes the phase alone.
+// An event that comes with numbers alone and changes only the phase.
 #[derive(Clone, Copy)]
 pub enum IkeEvent {
     Begin,

@@ -78,7 +78,7 @@ pub fn child_deleted(line: Record, time: u64, spi: u64) -> Stepped
     let Phase::Live(_) = found.phase else {
         return Err(Refusal::Phase);
     };
-    // Children in a variable of their own are copied alone.
+    // The children are copied first, so that the rest of the record is not.
     let children = found.children;
     if !has_spi(children.as_slice(), spi) {
         return Err(Refusal::Phase);
